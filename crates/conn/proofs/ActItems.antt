@@ -12,7 +12,7 @@ use Rattle.conn_trace.specs.Gates.{Counts, TakenCounts, Met, sent_after, sent_fr
 use Rattle.conn_trace.specs.Bodies.{act_item}
 use Rattle.frames.specs.Went.{effects_in}
 use Rattle.conn.specs.Hosts.{SendsWhere, client_bytes, server_bytes, logs_of}
-use Rattle.conn.specs.Servers.{ServerQueue, queue_along, run_notes, gives_up}
+use Rattle.conn.specs.Servers.{ServerQueue, queue_along, run_notes}
 use Rattle.conn.proofs.Giving.{quiet_queue}
 use Rattle.conn.proofs.Joining.{TakesNone, TakesNoCut}
 
@@ -27,7 +27,6 @@ pub record Silent (c : ℕ) (took : TakenCounts) (tail : List Item) : Type 0 whe
   pub met : (sent : Counts) → Met sent took tail
   pub client : client_output tail ≡ []
   pub servers : (q : ServerQueue) → queue_along tail q ≡ q
-  pub kept : gives_up tail ≡ false
   pub to_none : server_output 0 tail ≡ []
   pub noted : (sent : Counts) → run_notes c sent took tail ≡ []
   pub sent : (sent : Counts) → sent_from sent tail ≡ sent
@@ -35,10 +34,10 @@ pub record Silent (c : ℕ) (took : TakenCounts) (tail : List Item) : Type 0 whe
   pub calls : calls_in tail ≡ []
 
 pub no_tail : (c : ℕ) (took : TakenCounts) → Silent c took []
-no_tail c took = record { met = λ s. tt; client = refl; servers = λ q. refl; kept = refl; to_none = refl; noted = λ s. refl; sent = λ s. refl; takes = (refl, λ t. refl); calls = refl }
+no_tail c took = record { met = λ s. tt; client = refl; servers = λ q. refl; to_none = refl; noted = λ s. refl; sent = λ s. refl; takes = (refl, λ t. refl); calls = refl }
 
 pub end_tail : (c : ℕ) (took : TakenCounts) (e : EventName) (cost : ℕ) → Silent c took (Ran e cost ∷ [])
-end_tail c took e cost = record { met = λ s. (refl, tt); client = refl; servers = λ q. quiet_queue q; kept = refl; to_none = refl; noted = λ s. refl; sent = λ s. refl; takes = (refl, λ t. refl); calls = refl }
+end_tail c took e cost = record { met = λ s. (refl, tt); client = refl; servers = λ q. quiet_queue q; to_none = refl; noted = λ s. refl; sent = λ s. refl; takes = (refl, λ t. refl); calls = refl }
 
 module _ (c number : ℕ) (took : TakenCounts) (tail : List Item) (t : Silent c took tail) where
   abbrev items : List Act → List Item
@@ -63,12 +62,6 @@ module _ (c number : ℕ) (took : TakenCounts) (tail : List Item) (t : Silent c 
   acts_server (Did (effect.Sent Client bytes) ∷ xs) q = acts_server xs (record q { queued = q.queued ++ [] }) ∙ ap (λ x. record q { queued = x ++ server_bytes (effects_in xs) }) (append-nil q.queued)
   acts_server (Did (effect.Sent Server bytes) ∷ xs) q = acts_server xs (record q { queued = q.queued ++ bytes }) ∙ ap (λ x. record q { queued = x }) (append_assoc q.queued bytes (server_bytes (effects_in xs)))
   acts_server (act.Called path call ∷ xs) q = acts_server xs (record q { queued = q.queued ++ [] }) ∙ ap (λ x. record q { queued = x ++ server_bytes (effects_in xs) }) (append-nil q.queued)
-
-  pub acts_kept : (xs : List Act) → gives_up (items xs) ≡ false
-  acts_kept [] = t.kept
-  acts_kept (Did (effect.Logged text) ∷ xs) = acts_kept xs
-  acts_kept (Did (effect.Sent side bytes) ∷ xs) = acts_kept xs
-  acts_kept (act.Called path call ∷ xs) = acts_kept xs
 
   -- what is sent to a server goes to one that was made
   pub acts_to_none : (up : Bool) (xs : List Act) → SendsWhere up (effects_in xs) → (up ≡ true → nat_eq number 0 ≡ false) → server_output 0 (items xs) ≡ []

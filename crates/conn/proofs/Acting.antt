@@ -1,5 +1,7 @@
 -- What an action gives, by what it comes to.
-use Rattle.std.proofs.Common.{◌≡◌, refl, sym, ap, subst, ◌∙◌, ℕ, ◌+◌, List, [], ◌∷◌, ◌++◌, append-nil, length, map, Bool, true, false, true≢false, ◌&&◌, Option, Some, None, if◌then◌else◌, arith, length-append}
+use Rattle.std.proofs.Common.{◌≡◌, refl, sym, ap, subst, ◌∙◌, ℕ, ◌+◌, List, [], ◌∷◌, ◌++◌, append-nil, length, map, Bool, true, false, true≢false, ◌&&◌, ◌||◌, not, Option, Some, None, if◌then◌else◌, arith, length-append, ◌⊎◌, inl, inr, ⊎_elim}
+use Rattle.std.specs.Option.{is_some}
+use Rattle.px_bytes.specs.declared.addr.Side.{Side}
 use Rattle.px_bytes.specs.declared.addr.Side.TheVariants.{Client, Server}
 use Rattle.px_bytes.specs.Host.{Effect, Logged, Sent}
 use Rattle.rule_model.specs.Outcome.{Act}
@@ -7,28 +9,30 @@ use Rattle.conn_trace.specs.Bodies.{act_item}
 use Rattle.core_events.specs.Edges.{edges_noted}
 use Rattle.core_events.specs.declared.edges.Edges.{Edges}
 use Rattle.conn_trace.specs.Further.{choosing, longer}
-use Rattle.conn_trace.specs.Gates.{sent_from, taken_of, untaken}
+use Rattle.conn_trace.specs.Gates.{Counts, TakenCounts, may_give, sent_from, taken_of, untaken}
 use Rattle.conn_trace.specs.Item.{CutBy, Finished, Item, Reason, cause_of}
 use Rattle.conn_trace.specs.Places.{Place, at as put, closed}
 use Rattle.conn_trace.specs.Queries.{is_reset}
 use Rattle.conn_trace.specs.Setup.{Setup}
-use Rattle.conn_trace.specs.State.{ForReply, TraceState, Does, Over, Waits}
-use Rattle.conn_trace.specs.Laws.{ends_rests}
+use Rattle.conn_trace.specs.State.{ForBytes, ForConnect, ForCut, ForRelay, ForReply, ForReuse, TraceState, Next, Does, Over, Waits}
+use Rattle.conn_trace.specs.Laws.{cut_is_taken, ends_rests, takes_cut}
+use Rattle.conn_trace.proofs.Cutting.{rest_is_cut_also}
 use Rattle.conn_trace.specs.Places.{finish}
 use Rattle.conn_trace.specs.Places as model
-use Rattle.conn_trace.specs.Trace.{next_item, Unfolds, GivesNoMore}
+use Rattle.conn_trace.specs.Trace.{cut_takes, next_item, Unfolds, GivesNoMore}
 use Rattle.core_events.specs.declared.note.CutReason.{CutReason}
-use Rattle.core_events.specs.declared.note.CutReason.TheVariants.{ClientReset, ServerReset, Idle}
+use Rattle.core_events.specs.declared.note.CutReason.TheVariants.{ClientReset, ServerReset}
 use Rattle.core_events.specs.declared.note.Note.{Note}
 use Rattle.core_events.specs.declared.note.Note.TheVariants as note
 use Rattle.conn_trace.proofs.Given.{sent_counted}
 use Rattle.frames.specs.Went.{effects_in}
-use Rattle.conn.specs.Acts.{Rests, RestsBy, cut_of}
+use Rattle.conn.specs.Acts.{Rests, RestsBy, WaitsFor, cut_of, is_server, server_cuts}
+use Rattle.conn.specs.Acts.{cut_by as code_cut}
 use Rattle.conn.specs.Changes.{Closes}
 use Rattle.conn.specs.Ends.{connects_by, has_stream, is_taken, is_up, link_by, sent_here, server_by}
 use Rattle.conn.specs.Holds.{Around, Between, Holds, HoldsEnds, Stands}
 use Rattle.conn.specs.Hosts.{SendsWhere, Told, client_bytes, logs_of, seen_host, server_bytes}
-use Rattle.conn.specs.RunsItems.{is_cut, licenses}
+use Rattle.conn.specs.RunsItems.{cut_due, is_cut, licenses}
 use Rattle.conn.specs.Servers.{queue_at_server}
 use Rattle.conn.specs.Setups.{Serves}
 use Rattle.conn.specs.Stages.{InEvent as HostIn, cause_for, fits, has_finished, is_asking, is_in_body, reason_for}
@@ -44,7 +48,7 @@ use Rattle.conn.specs.declared.stage.Finish.{Finish}
 use Rattle.conn.specs.declared.stage.Finish.TheVariants as finish
 use Rattle.conn.specs.declared.turn.Act as code
 use Rattle.conn.specs.declared.turn.Act.TheVariants as done
-use Rattle.conn.proofs.ActItems.{Silent, acts_calls, acts_client, acts_met, acts_noted, acts_number, acts_sent_client, acts_sent_server, acts_server, acts_take, calls_made, sends_none, acts_kept, acts_to_none}
+use Rattle.conn.proofs.ActItems.{Silent, acts_calls, acts_client, acts_met, acts_noted, acts_number, acts_sent_client, acts_sent_server, acts_server, acts_take, calls_made, sends_none, acts_to_none}
 use Rattle.conn.proofs.CutItems.{cut_by, finish_is, rest_cut}
 use Rattle.conn.proofs.Giving.{Gave, Plain, ends_kept, gave_none, gave_one, same_queue}
 use Rattle.conn.proofs.Joining.{longer_nothing, none_needed}
@@ -55,7 +59,7 @@ use Rattle.conn.proofs.Places.{GoneTo, closes_gone, link_is}
 abbrev pub ActStops : Setup → Around → TraceState → Conn → code.Act → Type 0
 ActStops g a at new done.Goes = is_asking new.stage ≡ false
 ActStops g a at new (done.Asks call) = next_item g at ≡ Waits (ForReply call)
-ActStops g a at new done.Rests = GivesNoMore false at.sent a.took (next_item g at) × ((is_cut a.took at ≡ false) × (is_in_body new.stage ≡ false))
+ActStops g a at new done.Rests = GivesNoMore false at.sent a.took (next_item g at) × ((is_cut g a.took at ≡ false) × (is_in_body new.stage ≡ false))
 
 -- the call that it made
 abbrev pub asked_by : code.Act → List (List (List ℕ))
@@ -81,7 +85,7 @@ gone_holds g a fin p l ends new k is h no_choice no_cut = record {
 }
 
 -- nothing is given
-pub stays : (g : Setup) (a : Around) (l : TraceState) (c : ℕ) (old new : Conn) (did : code.Act) → Holds g a l old → is_in_body old.stage ≡ false → did ≡ done.Rests → new ≡ old → GivesNoMore false l.sent a.took (next_item g l) → is_cut a.took l ≡ false → ActGave g a l c old new [] did
+pub stays : (g : Setup) (a : Around) (l : TraceState) (c : ℕ) (old new : Conn) (did : code.Act) → Holds g a l old → is_in_body old.stage ≡ false → did ≡ done.Rests → new ≡ old → GivesNoMore false l.sent a.took (next_item g l) → is_cut g a.took l ≡ false → ActGave g a l c old new [] did
 stays g a l c old new did h quiet rests same stops kept =
     subst (λ x. ActGave g a l c old x [] did) (sym same) (subst (λ x. ActGave g a l c old old [] x) (sym rests) (record { at = l; gave = gave_none g a l c old h; stops = (stops, (kept, quiet)) }))
 
@@ -99,11 +103,11 @@ cause_is (finish.Http fault) = refl
 cause_is (finish.Cut reason) = refl
 
 plain_finish : (f : Finish) → IsPlain f → Plain (Finished (reason_for f)) []
-plain_finish finish.Closed p = record { calls = refl; client = refl; kept = refl; to_none = refl; opens = λ c s t. refl; takes = (refl, λ t. refl) }
-plain_finish finish.Rejected p = record { calls = refl; client = refl; kept = refl; to_none = refl; opens = λ c s t. refl; takes = (refl, λ t. refl) }
-plain_finish finish.Unselected p = record { calls = refl; client = refl; kept = refl; to_none = refl; opens = λ c s t. refl; takes = (refl, λ t. refl) }
-plain_finish (finish.Fault kind) p = record { calls = refl; client = refl; kept = refl; to_none = refl; opens = λ c s t. refl; takes = (refl, λ t. refl) }
-plain_finish (finish.Http fault) p = record { calls = refl; client = refl; kept = refl; to_none = refl; opens = λ c s t. refl; takes = (refl, λ t. refl) }
+plain_finish finish.Closed p = record { calls = refl; client = refl; to_none = refl; opens = λ c s t. refl; takes = (refl, λ t. refl) }
+plain_finish finish.Rejected p = record { calls = refl; client = refl; to_none = refl; opens = λ c s t. refl; takes = (refl, λ t. refl) }
+plain_finish finish.Unselected p = record { calls = refl; client = refl; to_none = refl; opens = λ c s t. refl; takes = (refl, λ t. refl) }
+plain_finish (finish.Fault kind) p = record { calls = refl; client = refl; to_none = refl; opens = λ c s t. refl; takes = (refl, λ t. refl) }
+plain_finish (finish.Http fault) p = record { calls = refl; client = refl; to_none = refl; opens = λ c s t. refl; takes = (refl, λ t. refl) }
 plain_finish (finish.Cut reason) p = absurd p
 
 -- the notes at a rest
@@ -115,29 +119,54 @@ pub rest_noted : (s : code_setup.Setup) (c : ℕ) (old new : Conn) (before after
 rest_noted s c old new before after did None (rests, same, none) = none ∙ sym (append-nil before)
 rest_noted s c old new before after did (Some reason) (goes, k) = k.1
 
--- by whether it has finished, and which side was reset: the cut that is due
-abbrev cut_due : (finished client server : Bool) → Bool
-cut_due finished client server = if finished then false else (if client then true else server)
+-- it doesn't wait for bytes of the server, and isn't over
+abbrev pub plain_rest : Next → Bool
+plain_rest (Does i m) = true
+plain_rest (Waits (ForBytes Server)) = false
+plain_rest (Waits kind) = true
+plain_rest Over = false
 
-abbrev cut_flags : (finished client server : Bool) → Option CutReason
-cut_flags finished client server = if finished then None else (if client then Some ClientReset else (if server then Some ServerReset else None))
+and_none : (b : Bool) → (b && false) ≡ false
+and_none true = refl
+and_none false = refl
 
-abbrev WasReset : CutReason → (client server : Bool) → Type 0
-WasReset ClientReset client server = client ≡ true
-WasReset ServerReset client server = server ≡ true
-WasReset Idle client server = ⊥
+-- with HTTP the server's reset ends no such rest
+server_stays : (g : Setup) (took : TakenCounts) → g.http ≡ true → (sent : Counts) (o : Next) → plain_rest o ≡ true → takes_cut g (cut_by ServerReset took) sent o ≡ false
+server_stays g took e sent (Does i m) p = ap (λ b. not (may_give i sent took) && cut_takes b ServerReset None) e ∙ and_none (not (may_give i sent took))
+server_stays g took e sent (Waits (ForBytes Client)) p = ap (λ b. cut_takes b ServerReset (Some (ForBytes Client))) e
+server_stays g took e sent (Waits (ForBytes Server)) p = absurd (true≢false (sym p))
+server_stays g took e sent (Waits ForConnect) p = ap (λ b. cut_takes b ServerReset (Some ForConnect)) e
+server_stays g took e sent (Waits (ForReply call)) p = refl
+server_stays g took e sent (Waits (ForRelay c s)) p = ap (λ b. cut_takes b ServerReset (Some (ForRelay c s))) e
+server_stays g took e sent (Waits ForReuse) p = refl
+server_stays g took e sent (Waits ForCut) p = ap (λ b. cut_takes b ServerReset (Some ForCut)) e
+server_stays g took e sent Over p = refl
 
-none_due : (f c s : Bool) → cut_flags f c s ≡ None → cut_due f c s ≡ false
-none_due true c s is = refl
-none_due false true s is = absurd (cc)
-none_due false false true is = absurd (cc)
-none_due false false false is = refl
+-- and every reset that of a wait for its bytes
+pub waiting_ends : (g : Setup) (took : TakenCounts) (sent : Counts) → takes_cut g (cut_by ServerReset took) sent (Waits (ForBytes Server)) ≡ true
+waiting_ends g took sent = by_http g.http
+  where
+    by_http : (b : Bool) → cut_takes b ServerReset (Some (ForBytes Server)) ≡ true
+    by_http true = refl
+    by_http false = refl
 
-some_due : (f c s : Bool) (reason : CutReason) → cut_flags f c s ≡ Some reason → (f ≡ false) × WasReset reason c s
-some_due true c s reason is = absurd (cc)
-some_due false true s reason is = let same : ClientReset ≡ reason = cc in (refl, subst (λ r. WasReset r true s) same refl)
-some_due false false true reason is = let same : ServerReset ≡ reason = cc in (refl, subst (λ r. WasReset r false true) same refl)
-some_due false false false reason is = absurd (cc)
+client_ends : (b : Bool) → ends_rests b ClientReset ≡ true
+client_ends true = refl
+client_ends false = refl
+
+not_over : (o : Next) → plain_rest o ≡ true → o ≡ Over → ⊥
+not_over o p over = let x = sym p ∙ ap plain_rest over in cc
+
+-- a rest that isn't over is ended by such a cut
+rest_ends : (g : Setup) (reason : CutReason) (took : TakenCounts) (sent : Counts) (o : Next) → ends_rests g.http reason ≡ true → GivesNoMore false sent took o → (o ≡ Over → ⊥) → takes_cut g (cut_by reason took) sent o ≡ true
+rest_ends g reason took sent o ends rest open_yet = ⊎_elim (λ t. t) (λ over. absurd (open_yet over)) (rest_is_cut_also g (cut_by reason took) sent o ends rest)
+
+-- what isn't licensed isn't due, nor where it has finished
+pub finished_uncut : (g : Setup) (took : TakenCounts) (l : TraceState) → l.finished ≡ true → is_cut g took l ≡ false
+finished_uncut g took l f = ap (λ x. x || cut_due g ServerReset took l) (one ClientReset) ∙ one ServerReset
+  where
+    one : (r : CutReason) → cut_due g r took l ≡ false
+    one r = ap (λ b. licenses r l took && (not b && takes_cut g (cut_by r took) l.sent (next_item g l))) f ∙ and_none (licenses r l took)
 
 module _ (s : code_setup.Setup) (g : Setup) (serves : Serves s g) (a : Around) (l : TraceState) (c : ℕ) (old new : Conn) (h : Holds g a l old) (b : Between l old) where
   -- where it stands once it has finished
@@ -164,11 +193,11 @@ module _ (s : code_setup.Setup) (g : Setup) (serves : Serves s g) (a : Around) (
       record { at = closed_at; gave = subst (λ x. Gave g a l closed_at c old new (note.Finish c x ∷ []) []) (cause_is f) gave; stops = gone.awake }
 
   -- a cut at a rest finishes it
-  cut_gave : (reason : CutReason) → ends_rests g.http reason ≡ true → Closes s old new → l.finished ≡ false → GivesNoMore false l.sent a.took (next_item g l) → (next_item g l ≡ Over → ⊥) → licenses reason l a.took ≡ true → ActGave g a l c old new (note.Finish c (cause_for (finish.Cut reason)) ∷ []) done.Goes
-  cut_gave reason ends k going rest not_over licensed =
+  cut_gave : (reason : CutReason) → takes_cut g (cut_by reason a.took) l.sent (next_item g l) ≡ true → Closes s old new → l.finished ≡ false → GivesNoMore false l.sent a.took (next_item g l) → licenses reason l a.took ≡ true → ActGave g a l c old new (note.Finish c (cause_for (finish.Cut reason)) ∷ []) done.Goes
+  cut_gave reason takes k going rest licensed =
       let gone = closing k in
       let i = Finished (CutBy reason) in
-      let step : next_item g (longer (choosing [] (Some (cut_by reason a.took))) l) ≡ Does i closed_at = rest_cut g l reason a.took ends h.no_cut going rest not_over ∙ finish_at (CutBy reason) in
+      let step : next_item g (longer (choosing [] (Some (cut_by reason a.took))) l) ≡ Does i closed_at = rest_cut g l reason a.took takes h.no_cut going ∙ finish_at (CutBy reason) in
       record {
         at = closed_at;
         gave = record {
@@ -190,7 +219,6 @@ module _ (s : code_setup.Setup) (g : Setup) (serves : Serves s g) (a : Around) (
           holds = closed_holds k;
           client_queue = ap (λ e. e.client.queued) gone.ends ∙ sym (append-nil old.ends.client.queued);
           servers = same_queue gone.ends;
-          kept = refl;
           to_none = refl;
           edges = ap (λ e. e.edges) gone.ends;
           noted = refl;
@@ -211,47 +239,112 @@ module _ (s : code_setup.Setup) (g : Setup) (serves : Serves s g) (a : Around) (
     where
       by_link : (k : Link) → old.ends.link ≡ k → (model.is_up (link_by k) && is_reset l.sent a.took Server) ≡ (is_up k && old.ends.server.reset)
       by_link link.Up e = server_reset a l old.ends h.ends (ap is_taken e)
+      by_link (link.Leaving w) e = refl
       by_link link.Absent e = refl
       by_link link.Asked e = refl
       by_link link.Refused e = refl
       by_link link.Made e = refl
       by_link link.GivenUp e = refl
 
-  -- what was told of resets is what the trace says
-  resets_are : is_cut a.took l ≡ cut_due (has_finished old.stage) old.ends.client.reset (is_up old.ends.link && old.ends.server.reset)
-  resets_are =
-      ap (λ f. cut_due f (is_reset l.sent a.took Client) (licenses ServerReset l a.took)) h.finished
-      ∙ ap (λ x. cut_due (has_finished old.stage) x (licenses ServerReset l a.took)) (client_reset a l old.ends h.ends)
-      ∙ ap (λ x. cut_due (has_finished old.stage) old.ends.client.reset x) server_licenses
+  client_licenses : licenses ClientReset l a.took ≡ old.ends.client.reset
+  client_licenses = client_reset a l old.ends h.ends
 
-  licensed_by : (reason : CutReason) → WasReset reason old.ends.client.reset (is_up old.ends.link && old.ends.server.reset) → licenses reason l a.took ≡ true
-  licensed_by ClientReset r = client_reset a l old.ends h.ends ∙ r
-  licensed_by ServerReset r = server_licenses ∙ r
-  licensed_by Idle r = absurd r
+  -- no cut is due where none is taken
+  uncut_at : (waits : Bool) → (waits ≡ false → plain_rest (next_item g l) ≡ true) → code_cut waits old ≡ None → is_cut g a.took l ≡ false
+  uncut_at waits plain none = by_finished (has_finished old.stage) h.finished none
+    where
+      takes : CutReason → Bool
+      takes r = takes_cut g (cut_by r a.took) l.sent (next_item g l)
 
-  -- with HTTP there is no server connection that might be reset
-  cut_ends : (reason : CutReason) → WasReset reason old.ends.client.reset (is_up old.ends.link && old.ends.server.reset) → ends_rests g.http reason ≡ true
-  cut_ends ClientReset r = client_ends g.http
+      -- a flag by flag
+      server_due : (up reset http : Bool) → licenses ServerReset l a.took ≡ (up && reset) → is_some old.host.http ≡ http → (up && (reset && (waits || not http))) ≡ false → cut_due g ServerReset a.took l ≡ false
+      server_due false reset http e f n = ap (λ b. b && cut_is_taken g (cut_by ServerReset a.took) l) e
+      server_due true false http e f n = ap (λ b. b && cut_is_taken g (cut_by ServerReset a.took) l) e
+      server_due true true http e f n =
+          let stays = server_stays g a.took (sym h.told.spoken ∙ f ∙ spoken http n) l.sent (next_item g l) (plain (still http n)) in
+          ap (λ b. licenses ServerReset l a.took && (not l.finished && b)) stays ∙ ap (λ b. licenses ServerReset l a.took && b) (and_none (not l.finished)) ∙ and_none (licenses ServerReset l a.took)
+        where
+          spoken : (x : Bool) → (waits || not x) ≡ false → x ≡ true
+          spoken true n = refl
+          spoken false n = absurd (by_waits waits n)
+            where
+              by_waits : (y : Bool) → (y || true) ≡ false → ⊥
+              by_waits true n = true≢false n
+              by_waits false n = true≢false n
+
+          still : (x : Bool) → (waits || not x) ≡ false → waits ≡ false
+          still x n = by_waits waits n
+            where
+              by_waits : (y : Bool) → (y || not x) ≡ false → y ≡ false
+              by_waits true n = absurd (true≢false n)
+              by_waits false n = refl
+
+      by_server : (b : Bool) → server_cuts waits old ≡ b → (if b then Some ServerReset else None) ≡ None → cut_due g ServerReset a.took l ≡ false
+      by_server true e n = absurd (let x = n in cc)
+      by_server false e n = server_due (is_up old.ends.link) old.ends.server.reset (is_some old.host.http) server_licenses refl e
+
+      by_client : (b : Bool) → old.ends.client.reset ≡ b → (if b then Some ClientReset else (if server_cuts waits old then Some ServerReset else None)) ≡ None → is_cut g a.took l ≡ false
+      by_client true e n = absurd (let x = n in cc)
+      by_client false e n = ap (λ x. (x && cut_is_taken g (cut_by ClientReset a.took) l) || cut_due g ServerReset a.took l) (client_licenses ∙ e) ∙ by_server (server_cuts waits old) refl n
+
+      by_finished : (b : Bool) → l.finished ≡ b → (if b then None else (if old.ends.client.reset then Some ClientReset else (if server_cuts waits old then Some ServerReset else None))) ≡ None → is_cut g a.took l ≡ false
+      by_finished true f n = finished_uncut g a.took l f
+      by_finished false f n = by_client old.ends.client.reset refl n
+
+  -- and one that is taken is due
+  abbrev Due : (waits : Bool) → CutReason → Type 0
+  Due waits reason = (l.finished ≡ false) × (licenses reason l a.took ≡ true) × ((reason ≡ ClientReset) ⊎ ((reason ≡ ServerReset) × ((waits ≡ true) ⊎ (g.http ≡ false))))
+
+  due_at : (waits : Bool) (reason : CutReason) → code_cut waits old ≡ Some reason → Due waits reason
+  due_at waits reason some = by_finished (has_finished old.stage) h.finished some
     where
-      client_ends : (b : Bool) → ends_rests b ClientReset ≡ true
-      client_ends true = refl
-      client_ends false = refl
-  cut_ends ServerReset r = by_flag g.http refl
-    where
-      by_flag : (b : Bool) → g.http ≡ b → ends_rests b ServerReset ≡ true
-      by_flag true e = absurd (true≢false (sym r ∙ ap (λ k. is_up k && old.ends.server.reset) (h.told.alone e)))
-      by_flag false e = refl
-  cut_ends Idle r = absurd r
+      by_flags : (up reset y http : Bool) → licenses ServerReset l a.took ≡ (up && reset) → waits ≡ y → is_some old.host.http ≡ http → (up && (reset && (y || not http))) ≡ true → (licenses ServerReset l a.took ≡ true) × ((waits ≡ true) ⊎ (g.http ≡ false))
+      by_flags true true true http e w f t = (e, inl w)
+      by_flags true true false false e w f t = (e, inr (sym h.told.spoken ∙ f))
+      by_flags true true false true e w f t = absurd (true≢false (sym t))
+      by_flags true false y http e w f t = absurd (true≢false (sym t))
+      by_flags false reset y http e w f t = absurd (true≢false (sym t))
+
+      by_server : l.finished ≡ false → (b : Bool) → server_cuts waits old ≡ b → (if b then Some ServerReset else None) ≡ Some reason → Due waits reason
+      by_server f true e n =
+          let same : ServerReset ≡ reason = cc in
+          let k = by_flags (is_up old.ends.link) old.ends.server.reset waits (is_some old.host.http) server_licenses refl refl e in
+          (f, ap (λ r. licenses r l a.took) (sym same) ∙ k.0, inr (sym same, k.1))
+      by_server f false e n = absurd (let x = n in cc)
+
+      by_client : l.finished ≡ false → (b : Bool) → old.ends.client.reset ≡ b → (if b then Some ClientReset else (if server_cuts waits old then Some ServerReset else None)) ≡ Some reason → Due waits reason
+      by_client f true e n =
+          let same : ClientReset ≡ reason = cc in
+          (f, ap (λ r. licenses r l a.took) (sym same) ∙ client_licenses ∙ e, inl (sym same))
+      by_client f false e n = by_server f (server_cuts waits old) refl n
+
+      by_finished : (b : Bool) → l.finished ≡ b → (if b then None else (if old.ends.client.reset then Some ClientReset else (if server_cuts waits old then Some ServerReset else None))) ≡ Some reason → Due waits reason
+      by_finished true f n = absurd (let x = n in cc)
+      by_finished false f n = by_client f old.ends.client.reset refl n
 
   -- where nothing may be given a reset that was told cuts it, or it rests
-  pub rests_gave : (before after : List Note) (did : code.Act) → is_in_body old.stage ≡ false → GivesNoMore false l.sent a.took (next_item g l) → (next_item g l ≡ Over → ⊥) → Rests s c old new before after did → ActGave g a l c old new (rest_group c (cut_of old)) did
-  rests_gave before after did quiet rest not_over k = by_cut (cut_of old) refl k
+  rests_by : (waits : Bool) (before after : List Note) (did : code.Act) → is_in_body old.stage ≡ false → GivesNoMore false l.sent a.took (next_item g l) → (next_item g l ≡ Over → ⊥) → (waits ≡ false → plain_rest (next_item g l) ≡ true) → (waits ≡ true → next_item g l ≡ Waits (ForBytes Server)) → RestsBy (code_cut waits old) s c old new before after did
+      → ActGave g a l c old new (rest_group c (code_cut waits old)) did
+  rests_by waits before after did quiet rest open_yet plain awaits k = by_cut (code_cut waits old) refl k
     where
-      by_cut : (o : Option CutReason) → cut_of old ≡ o → RestsBy o s c old new before after did → ActGave g a l c old new (rest_group c o) did
-      by_cut None is (rests, same, none) = stays g a l c old new did h quiet rests same rest (resets_are ∙ none_due (has_finished old.stage) old.ends.client.reset (is_up old.ends.link && old.ends.server.reset) is)
+      ends : (reason : CutReason) → ((reason ≡ ClientReset) ⊎ ((reason ≡ ServerReset) × ((waits ≡ true) ⊎ (g.http ≡ false)))) → takes_cut g (cut_by reason a.took) l.sent (next_item g l) ≡ true
+      ends reason (inl is) = rest_ends g reason a.took l.sent (next_item g l) (ap (ends_rests g.http) is ∙ client_ends g.http) rest open_yet
+      ends reason (inr (is, inl w)) = ap (λ r. takes_cut g (cut_by r a.took) l.sent (next_item g l)) is ∙ ap (takes_cut g (cut_by ServerReset a.took) l.sent) (awaits w) ∙ waiting_ends g a.took l.sent
+      ends reason (inr (is, inr p)) = rest_ends g reason a.took l.sent (next_item g l) (ap (ends_rests g.http) is ∙ ap (λ b. ends_rests b ServerReset) p) rest open_yet
+
+      by_cut : (o : Option CutReason) → code_cut waits old ≡ o → RestsBy o s c old new before after did → ActGave g a l c old new (rest_group c o) did
+      by_cut None is (rests, same, none) = stays g a l c old new did h quiet rests same rest (uncut_at waits plain is)
       by_cut (Some reason) is (goes, k) =
-          let due = some_due (has_finished old.stage) old.ends.client.reset (is_up old.ends.link && old.ends.server.reset) reason is in
-          subst (λ d. ActGave g a l c old new (rest_group c (Some reason)) d) (sym goes) (cut_gave reason (cut_ends reason due.1) k.0 (h.finished ∙ due.0) rest not_over (licensed_by reason due.1))
+          let due = due_at waits reason is in
+          subst (λ d. ActGave g a l c old new (rest_group c (Some reason)) d) (sym goes) (cut_gave reason (ends reason due.2) k.0 due.0 rest due.1)
+
+  pub rests_gave : (before after : List Note) (did : code.Act) → is_in_body old.stage ≡ false → GivesNoMore false l.sent a.took (next_item g l) → plain_rest (next_item g l) ≡ true → Rests s c old new before after did → ActGave g a l c old new (rest_group c (cut_of old)) did
+  rests_gave before after did quiet rest plain k = rests_by false before after did quiet rest (not_over (next_item g l) plain) (λ w. plain) (λ w. absurd (true≢false (sym w))) k
+
+  -- it waits for bytes of a side
+  pub waits_gave : (side : Side) (before after : List Note) (did : code.Act) → is_in_body old.stage ≡ false → next_item g l ≡ Waits (ForBytes side) → WaitsFor side s c old new before after did → ActGave g a l c old new (rest_group c (code_cut (is_server side) old)) did
+  waits_gave Client before after did quiet item k = rests_by false before after did quiet (subst (λ o. GivesNoMore false l.sent a.took o) (sym item) refl) (λ over. (let x = sym item ∙ over in cc)) (λ w. ap plain_rest item) (λ w. absurd (true≢false (sym w))) k
+  waits_gave Server before after did quiet item k = rests_by true before after did quiet (subst (λ o. GivesNoMore false l.sent a.took o) (sym item) refl) (λ over. (let x = sym item ∙ over in cc)) (λ w. absurd (true≢false w)) (λ w. item) k
 
 -- what the acts of a body made was done, and these are the calls among them
 pub record DoesActs (g : Setup) (up : Bool) (xs : List Act) (old new : Conn) (called : List (List (List ℕ))) : Type 0 where
@@ -282,6 +375,7 @@ queued_side link.Refused e bytes = refl
 queued_side link.Made e bytes = refl
 queued_side link.Up e bytes = refl
 queued_side link.GivenUp e bytes = refl
+queued_side (link.Leaving w) e bytes = refl
 
 queued_answer : (k : Link) (e : End) (bytes : List ℕ) → connects_by k (queue_end bytes e) ≡ connects_by k e
 queued_answer link.Absent e bytes = refl
@@ -290,6 +384,7 @@ queued_answer link.Refused e bytes = refl
 queued_answer link.Made e bytes = refl
 queued_answer link.Up e bytes = refl
 queued_answer link.GivenUp e bytes = refl
+queued_answer (link.Leaving w) e bytes = refl
 
 not_there : (k : Link) → has_stream k ≡ false → is_up k ≡ false
 not_there link.Absent none = refl
@@ -298,6 +393,7 @@ not_there link.Refused none = refl
 not_there link.Made none = refl
 not_there link.Up none = none
 not_there link.GivenUp none = refl
+not_there (link.Leaving w) none = refl
 
 not_taken : (k : Link) → is_taken k ≡ false → is_up k ≡ false
 not_taken link.Absent none = refl
@@ -306,11 +402,13 @@ not_taken link.Refused none = refl
 not_taken link.Made none = refl
 not_taken link.Up none = none
 not_taken link.GivenUp none = refl
+not_taken (link.Leaving w) none = refl
 
 -- n bytes more are queued where so many more were sent, to a server connection that is up
 untaken_on : (k : Link) (q n counted sent after : ℕ) → (is_up k ≡ false → n ≡ 0) → (has_stream k ≡ true → q + counted ≡ sent_here k sent) → after ≡ sent + n → has_stream k ≡ true → (q + n) + counted ≡ sent_here k after
 untaken_on link.Up q n counted sent after none is more there = let k = is refl in omega (arith, k, more)
 untaken_on link.GivenUp q n counted sent after none is more there = let k = is refl in let z = none refl in omega (arith, k, more, z)
+untaken_on (link.Leaving w) q n counted sent after none is more there = let k = is refl in let z = none refl in omega (arith, k, more, z)
 untaken_on link.Made q n counted sent after none is more there = let k = is refl in let z = none refl in omega (arith, k, z)
 untaken_on link.Absent q n counted sent after none is more there = absurd (cc)
 untaken_on link.Asked q n counted sent after none is more there = absurd (cc)
@@ -368,7 +466,6 @@ acts_gave g a l at c old new xs tail {called = called} t h made u stands finishe
       client_queue = ap (λ e. e.client.queued) made.ends ∙ ap (λ x. old.ends.client.queued ++ x) (sym (acts_client c number a.took tail t xs));
       servers = ap queue_at_server made.ends ∙ sym (acts_server c number a.took tail t xs (queue_at_server old.ends));
       edges = ap (λ e. e.edges) made.ends ∙ sym (logs_keep c (effects_in xs) old.ends.edges);
-      kept = acts_kept c number a.took tail t xs;
       to_none = acts_to_none c number a.took tail t (is_up old.ends.link) xs made.first (up_number a l old.ends h.ends);
       noted = sym (acts_noted c number a.took tail t xs l.sent);
       calls = acts_calls c number a.took tail t xs ∙ made.calls;

@@ -1,19 +1,9 @@
 -- An action is the next items of each state that the connection may stand for.
-use Rattle.std.proofs.Common.{◌≡◌, ◌⊎◌, inl, inr, refl, sym, ap, subst, ◌∙◌, ℕ, ◌+◌, List, [], ◌∷◌, ◌++◌, append-nil, drop, take, length, Bool, true, false, Option, Some, None, Result, Ok, Err, nat_lt}
+use Rattle.std.proofs.Common.{◌≡◌, inl, inr, refl, sym, ap, subst, ◌∙◌, ℕ, ◌+◌, List, [], ◌∷◌, ◌++◌, append-nil, drop, Bool, true, false, Option, Some, None}
 use Rattle.std.specs.Bool.{MatchBool}
 use Rattle.px_bytes.specs.declared.addr.Addr.{Addr}
-use Rattle.px_bytes.specs.declared.addr.Side.{Side}
-use Rattle.px_bytes.specs.declared.addr.Side.TheVariants.{Client, Server}
-use Rattle.px_bytes.specs.declared.fault.FaultKind.{FaultKind}
-use Rattle.px_bytes.specs.declared.fault.HttpFault.{HttpFault}
-use Rattle.http_answers.specs.Refusals.{continue_text}
-use Rattle.http_frames.specs.Parts.{Part, Byte, Chunk, End, Pending, Bad}
-use Rattle.http_messages.specs.Messages.{request_of}
-use Rattle.irule_http.specs.declared.state.Request.{Request}
-use Rattle.http_heads.specs.declared.front.HeadPart.{HeadPart}
-use Rattle.http_heads.specs.declared.front.HeadPart.TheVariants.{HeadOf, StreamEnds, Faulty, NoHead}
+use Rattle.px_bytes.specs.declared.addr.Side.TheVariants.{Server}
 use Rattle.http_heads.specs.Fronts.{head_part}
-use Rattle.conn_trace.specs.SentBodies.{is_answered}
 use Rattle.core_events.specs.Edges.{edges_noted}
 use Rattle.conn_trace.specs.Setup.{Handler, Setup}
 use Rattle.conn_trace.specs.State.{TraceState}
@@ -21,22 +11,21 @@ use Rattle.core_events.specs.declared.note.CutReason.{CutReason}
 use Rattle.core_events.specs.declared.note.Note.{Note}
 use Rattle.core_events.specs.declared.note.Note.TheVariants as note
 use Rattle.conn_trace.specs.Relay.{meets}
-use Rattle.conn.specs.Acts.{ActedAt, Acted, AnswersBy, BehindFault, CollectsBy, PassesGate, PassesReleased, RelaysBy, Rests, RestsBy, cut_of, has_room, Connects, ConnectsNext}
-use Rattle.conn.specs.Acts.{DropsBy, HeadBy, RefusesBy, RequestBy, SendsClient, TellsToGoOn, client_room, dropped}
-use Rattle.conn.specs.Changes.{Closes, ClosesClient, ClosesServer, GoesTo, Leaves, NextBody, StartsBody}
-use Rattle.conn.specs.Choosing.{ChoosesBy, TakesChosen, plan_of}
-use Rattle.conn.specs.Ends.{is_sought}
-use Rattle.conn.specs.Events.{event_of, is_closed}
+use Rattle.conn.specs.Acted.{Acted, ActedAt}
+use Rattle.conn.specs.Acts.{cut_by}
+use Rattle.conn.specs.Acts.{AnswersBy, CollectsBy, PassesGate, PassesReleased, RelaysBy, Rests, RestsBy, cut_of, has_room, Connects, ConnectsNext}
+use Rattle.conn.specs.Acts.{client_room, dropped}
+use Rattle.conn.specs.Changes.{StartsBody}
+use Rattle.conn.specs.Choosing.{ChoosesBy, plan_of}
+use Rattle.conn.specs.Events.{event_of}
 use Rattle.conn.specs.Holds.{Around, Holds, RunsFirst, Stands}
-use Rattle.conn.specs.Hosts.{client_bytes, made_in, server_bytes}
-use Rattle.conn.specs.Relaying.{Releases, moved, read_ends, relay_plan, round_begun}
-use Rattle.conn.specs.Setups.{body_at, places_at, Serves}
-use Rattle.conn.specs.Stages.{asked_stage, cause_for, http_in, is_asking}
-use Rattle.conn.specs.Steps.{BodyMovedBy, BodySteps, GoesOn, one_of, queue_both, said_of}
+use Rattle.conn.specs.Relaying.{Releases, relay_plan, round_begun}
+use Rattle.conn.specs.Setups.{body_at, Serves}
+use Rattle.conn.specs.Stages.{cause_for, http_in, is_asking}
+use Rattle.conn.specs.Steps.{BodyMovedBy, GoesOn, said_of}
 use Rattle.conn.specs.declared.body_step.Said.{Said}
 use Rattle.conn.specs.declared.body_step.Said.TheVariants as said
 use Rattle.conn.specs.declared.connection.Conn.{Conn}
-use Rattle.conn.specs.declared.ends.Ends.{Ends}
 use Rattle.conn.specs.declared.ends.Link.{Link}
 use Rattle.conn.specs.declared.ends.Link.TheVariants as link
 use Rattle.conn.specs.declared.events.At.{At}
@@ -49,18 +38,16 @@ use Rattle.conn.specs.Choosing.{ChoosesBy, plan_of}
 use Rattle.conn.specs.declared.select.Plan.{Plan}
 use Rattle.conn.specs.declared.select.Plan.TheVariants as plan
 use Rattle.conn.specs.declared.setup.Setup as code_setup
-use Rattle.conn.specs.declared.stage.Finish.TheVariants as finish
 use Rattle.conn.specs.declared.stage.Stage.{Stage}
 use Rattle.conn.specs.declared.stage.Stage.TheVariants as stage
 use Rattle.conn.specs.declared.turn.Act as step_act
 use Rattle.conn.specs.declared.turn.Act.TheVariants as done
-use Rattle.conn.proofs.Acting.{ActGave, logs_keep, rest_group}
+use Rattle.conn.proofs.Acting.{ActGave}
 use Rattle.conn.proofs.Answering.{tells, tells_noted}
 use Rattle.conn.proofs.BodyMoves.{body_gives, step_notes}
 use Rattle.conn.proofs.Dropped.{drops, front_group, front_noted, left_front}
-use Rattle.conn.proofs.Refusing.{refused_by}
 use Rattle.conn.proofs.RequestActs.{GoesOrRests, drops_or, head_or, tells_or}
-use Rattle.conn.proofs.Requesting.{head_group, head_noted, heads, request_group}
+use Rattle.conn.proofs.Requesting.{head_group, head_noted, heads}
 use Rattle.conn.proofs.Choosing.{chooses, chosen}
 use Rattle.conn.proofs.Collecting.{collect_group, collect_noted, collects}
 use Rattle.conn.proofs.Releasing.{release_noted, releases, server_room}
@@ -70,154 +57,14 @@ use Rattle.conn.proofs.Passing.{relay_group, relay_noted, relays}
 use Rattle.conn.proofs.Places.{none_here}
 use Rattle.seg_buffer.specs.Bytes.{is_empty}
 use Rattle.conn.specs.Queues.{queue_in}
-
--- what an action tells the outside of the ends
-abbrev pub Tells : List Note → Conn → Conn → Type 0
-Tells group old new = new.ends.edges ≡ edges_noted group old.ends.edges
-
--- the same ends
-ends_tell : (old new : Conn) → new.ends ≡ old.ends → Tells [] old new
-ends_tell old new is = ap (λ e. e.edges) is
-
-client_ends : (s : code_setup.Setup) (old new : Conn) → ClosesClient s old new → new.ends ≡ old.ends
-client_ends s old new k = by_test (nat_lt 0 (length (places_at s event.Closed))) k.goes ∙ k.begins.ends
-  where
-    by_test : (b : Bool) → MatchBool b (StartsBody s event.Closed 0 k.mid new) (GoesTo stage.Draining k.mid new) → new.ends ≡ k.mid.ends
-    by_test true c = c.ends
-    by_test false c = c.ends
-
-leaves_ends : (s : code_setup.Setup) (at : At) (old new : Conn) → Leaves s at old new → new.ends ≡ old.ends
-leaves_ends s event.Accepted old new k = k.ends
-leaves_ends s event.ClientData old new k = k.ends
-leaves_ends s event.Selected old new k = k.ends
-leaves_ends s event.Failed old new k = k.ends
-leaves_ends s event.Connected old new k = k.ends
-leaves_ends s event.Request old new k = k.ends
-leaves_ends s event.ServerData old new k = k.ends
-leaves_ends s event.ServerClosed old new k = client_ends s old new k
-leaves_ends s event.Closed old new k = k.ends
-
-next_ends : (s : code_setup.Setup) (at : At) (n : ℕ) (old new : Conn) → NextBody s at n old new → new.ends ≡ old.ends
-next_ends s at n old new k = by_test (nat_lt n (length (places_at s at))) k
-  where
-    by_test : (b : Bool) → MatchBool b (StartsBody s at n old new) (Leaves s at old new) → new.ends ≡ old.ends
-    by_test true c = c.ends
-    by_test false c = leaves_ends s at old new c
-
-closes_ends : (s : code_setup.Setup) (old new : Conn) → Closes s old new → new.ends ≡ old.ends
-closes_ends s old new k = by_test (is_sought old.ends.link) k
-  where
-    by_test : (b : Bool) → MatchBool b (ClosesServer s old new) (ClosesClient s old new) → new.ends ≡ old.ends
-    by_test true c = next_ends s event.ServerClosed 0 c.mid new c.goes ∙ c.begins.ends
-    by_test false c = client_ends s old new c
-
-fault_ends : (s : code_setup.Setup) (at : At) (n : ℕ) (kind : FaultKind) (old new : Conn) → BehindFault s at n kind old new → new.ends ≡ old.ends
-fault_ends s at n kind old new k = by_test (is_closed at) k
-  where
-    by_test : (b : Bool) → MatchBool b (NextBody s at n old new) (GoesTo (stage.Finishing (finish.Fault kind)) old new) → new.ends ≡ old.ends
-    by_test true c = next_ends s at n old new c
-    by_test false c = c.ends
-
-rest_tells : (s : code_setup.Setup) (c : ℕ) (old new : Conn) (before after : List Note) (did : step_act.Act) (o : Option CutReason) → RestsBy o s c old new before after did → Tells (rest_group c o) old new
-rest_tells s c old new before after did None k = ap (λ x. x.ends.edges) k.1
-rest_tells s c old new before after did (Some reason) k = ends_tell old new (closes_ends s old new k.1.0)
-
-gate_tells : (s : code_setup.Setup) (c : ℕ) (at : At) (old new : Conn) (before after : List Note) (did : step_act.Act) → PassesGate s c at old new before after did → Tells (gate_group (has_room old) c (cut_of old)) old new
-gate_tells s c at old new before after did k = by_test (has_room old) k
-  where
-    by_test : (b : Bool) → MatchBool b ((did ≡ done.Goes) × StartsBody s at 0 old new × (after ≡ before)) (Rests s c old new before after did) → Tells (gate_group b c (cut_of old)) old new
-    by_test true k = ends_tell old new k.1.ends
-    by_test false k = rest_tells s c old new before after did (cut_of old) k
-
-answer_tells : (s : code_setup.Setup) (c : ℕ) (k : Link) (old new : Conn) (before after : List Note) (did : step_act.Act) → AnswersBy k s c old new before after did → Tells (answer_group k c (cut_of old)) old new
-answer_tells s c link.Made old new before after did k = ap (λ e. e.edges) k.1.ends
-answer_tells s c link.Refused old new before after did k = ap (λ e. e.edges) k.1.ends
-answer_tells s c link.Absent old new before after did k = rest_tells s c old new before after did (cut_of old) k
-answer_tells s c link.Asked old new before after did k = rest_tells s c old new before after did (cut_of old) k
-answer_tells s c link.Up old new before after did k = rest_tells s c old new before after did (cut_of old) k
-answer_tells s c link.GivenUp old new before after did k = rest_tells s c old new before after did (cut_of old) k
-
-connect_tells : (s : code_setup.Setup) (c : ℕ) (to : Addr) (old new : Conn) (before after : List Note) (did : step_act.Act) → ConnectsNext s c to old new before after did → Tells (connect_group (is_empty (queue_in Server old)) c to (cut_of old)) old new
-connect_tells s c to old new before after did k = by_test (is_empty (queue_in Server old)) k
-  where
-    by_test : (b : Bool) → MatchBool b ((did ≡ done.Goes) × Connects c to old new before after) (Rests s c old new before after did) → Tells (connect_group b c to (cut_of old)) old new
-    by_test true k = ap (λ x. x.edges) k.1.ends
-    by_test false k = rest_tells s c old new before after did (cut_of old) k
-
-moved_edges : (side : Side) (n : ℕ) (e : Ends) → (moved side n e).edges ≡ e.edges
-moved_edges Client n e = refl
-moved_edges Server n e = refl
-
-fired_edges : (side : Side) (n : ℕ) (e : Ends) → (read_ends side n e).edges ≡ e.edges
-fired_edges Client n e = refl
-fired_edges Server n e = refl
-
-relay_tells : (s : code_setup.Setup) (c : ℕ) (p : Relay) (old new : Conn) (before after : List Note) (did : step_act.Act) → RelaysBy p s c old new before after did → Tells (relay_group p c (cut_of (round_begun old))) old new
-relay_tells s c relay.Done old new before after did k = ends_tell old new (closes_ends s old new k.1.0)
-relay_tells s c (relay.Pass side n) old new before after did k = ap (λ e. e.edges) k.1.ends ∙ moved_edges side n old.ends
-relay_tells s c (relay.Fire side n) old new before after did k = ap (λ e. e.edges) k.1.enters.ends ∙ fired_edges side n old.ends
-relay_tells s c relay.Rest old new before after did k = rest_tells s c (round_begun old) new before after did (cut_of (round_begun old)) k
-
-collect_tells : (s : code_setup.Setup) (c : ℕ) (o : Option ℕ) (old new : Conn) (before after : List Note) (did : step_act.Act) → CollectsBy o s c old new before after did → Tells (collect_group o c (cut_of old)) old new
-collect_tells s c None old new before after did k = rest_tells s c old new before after did (cut_of old) k
-collect_tells s c (Some n) old new before after did k = ap (λ e. e.edges) k.1.enters.ends
-
-release_tells : (s : code_setup.Setup) (c : ℕ) (old new : Conn) (before after : List Note) (did : step_act.Act) → PassesReleased s c old new before after did → Tells (gate_group (server_room old) c (cut_of old)) old new
-release_tells s c old new before after did k = by_test (server_room old) k
-  where
-    by_test : (b : Bool) → MatchBool b ((did ≡ done.Goes) × Releases old new × (after ≡ before)) (Rests s c old new before after did) → Tells (gate_group b c (cut_of old)) old new
-    by_test true k = ap (λ e. e.edges) k.1.ends
-    by_test false k = rest_tells s c old new before after did (cut_of old) k
-
--- requests
-refused_tells : (s : code_setup.Setup) (c : ℕ) (x : Bool) (f : HttpFault) (old new : Conn) (before after : List Note) (did : step_act.Act) → RefusesBy x f s c old new before after did → Tells (refused_by x f c) old new
-refused_tells s c true f old new before after did k = ap (λ e. e.edges) k.1.ends
-refused_tells s c false f old new before after did k = ends_tell old new (closes_ends s old new k.1.0)
-
-told_tells : (s : code_setup.Setup) (c : ℕ) (old new : Conn) (before after : List Note) (did : step_act.Act) → TellsToGoOn s c old new before after did → Tells (gate_group (client_room old) c (cut_of old)) old new
-told_tells s c old new before after did k = by_test (client_room old) k
-  where
-    by_test : (x : Bool) → MatchBool x ((did ≡ done.Goes) × SendsClient continue_text (asked_stage (http_in old.host)) old new × (after ≡ before)) (Rests s c old new before after did) → Tells (gate_group x c (cut_of old)) old new
-    by_test true k = ap (λ e. e.edges) k.1.ends
-    by_test false k = rest_tells s c old new before after did (cut_of old) k
-
-front_tells : (s : code_setup.Setup) (c : ℕ) (mid new : Conn) (before after : List Note) (did : step_act.Act) (p : Part) → DropsBy p s c mid new before after did → Tells (front_group c mid p) mid new
-front_tells s c mid new before after did Byte k = absurd k
-front_tells s c mid new before after did (Chunk line size) k = absurd k
-front_tells s c mid new before after did (End n) k = ap (λ e. e.edges) k.1.ends
-front_tells s c mid new before after did Pending k = rest_tells s c mid new before after did (cut_of mid) k
-front_tells s c mid new before after did (Bad f) k = refused_tells s c (is_answered Client f) f mid new before after did k
-
-request_tells : (s : code_setup.Setup) (c n : ℕ) (old new : Conn) (before after : List Note) (did : step_act.Act) (r : Result Request HttpFault) → RequestBy r n s c old new before after did → Tells (request_group c r) old new
-request_tells s c n old new before after did (Ok r) k = ap (λ e. e.edges) k.1.ends
-request_tells s c n old new before after did (Err f) k = refused_tells s c (is_answered Client f) f old new before after did k
-
-head_tells : (s : code_setup.Setup) (c : ℕ) (old new : Conn) (before after : List Note) (did : step_act.Act) (p : HeadPart) → HeadBy p s c old new before after did → Tells (head_group c old p) old new
-head_tells s c old new before after did (HeadOf n) k = request_tells s c n old new before after did (request_of (take n old.ends.client.unread)) k
-head_tells s c old new before after did StreamEnds k = ends_tell old new (closes_ends s old new k.1.0)
-head_tells s c old new before after did (Faulty f) k = refused_tells s c (is_answered Client f) f old new before after did k
-head_tells s c old new before after did NoHead k = rest_tells s c old new before after did (cut_of old) k
-
-chooses_tells : (s : code_setup.Setup) (p : Plan) (old new : Conn) (did : step_act.Act) → ChoosesBy p s old new did → Tells [] old new
-chooses_tells s plan.Nothing old new did k = ends_tell old new k.1.ends
-chooses_tells s (plan.Node addr) old new did k = ends_tell old new k.1.ends
-chooses_tells s (plan.Member pool only) old new did k = ends_tell old new k.ends
-
-chosen_tells : (s : code_setup.Setup) (addr : Option Addr) (old new : Conn) → TakesChosen s addr old new → Tells [] old new
-chosen_tells s None old new k = ends_tell old new k.ends
-chosen_tells s (Some addr) old new k = ends_tell old new k.ends
-
-went_on : (s : code_setup.Setup) (at : At) (n : ℕ) (x : Said) (mid new : Conn) (did : step_act.Act) → GoesOn s at n x mid new did → new.ends ≡ mid.ends
-went_on s at n said.More mid new did k = ap (λ x. x.ends) k.1
-went_on s at n (said.Asks call) mid new did k = ap (λ x. x.ends) k.1
-went_on s at n said.Over mid new did k = next_ends s at (n + 1) mid new k.1
-went_on s at n (said.Fails kind line) mid new did k = k.1.ends
-
-pub steps_tell : (s : code_setup.Setup) (h : Handler) (c : ℕ) (at : At) (n : ℕ) (old new : Conn) (before after : List Note) (did : step_act.Act) (ticks : ℕ) (k : BodySteps s h c at n old new before after did ticks) → Tells (step_notes k) old new
-steps_tell s h c at n old new before after did ticks k =
-    let es = one_of (made_in k.stepped.host) in
-    ap (λ e. e.edges) (went_on s at n (said_of h at k.turned) k.mid new did k.goes_on ∙ k.does.ends ∙ ap (queue_both (client_bytes es) (server_bytes es)) k.ends)
-    ∙ sym (logs_keep c es old.ends.edges)
+use Rattle.conn.proofs.Telling.{Tells, answer_tells, chooses_tells, chosen_tells, closes_ends, collect_tells, connect_tells, ends_tell, fault_ends, front_tells, gate_tells, head_tells, next_ends, relay_tells, release_tells, steps_tell, told_tells, forwards_edges, heading_tells, interims_edges, part_tells, reply_tells}
+use Rattle.conn.specs.Forwarding.{answer_of, ends_room, part_at}
+use Rattle.conn.specs.Messages.{is_whole, passed_to, with_ends}
+use Rattle.conn.specs.Servers.{closed_notes}
+use Rattle.conn.proofs.Reusing.{gives_up, retires, reuses}
+use Rattle.conn.proofs.Responding.{reads_response, response_noted, answer_group as reply_group}
+use Rattle.conn.proofs.Sending.{forwards_body, forwards_noted, heading_noted, part_group, sends_head}
+use Rattle.conn.proofs.RequestActs.{answers_or, forwards_or, heading_or}
 
 -- what one action gave, with its notes
 pub record ActedWell (s : code_setup.Setup) (c : ℕ) (old new : Conn) (before after : List Note) (did : step_act.Act) : Type 0 where
@@ -316,7 +163,43 @@ acted_well s c old new before after did ticks k = by_stage old.stage refl k
       tells = told_tells s c old new before after did k;
       along = λ g a l serves h awake. tells s g serves a l c old new h is (here stage.Continuing is g a l h) spoken before after did k;
     }
-    by_stage (stage.Gathering wanted reader) is k = absurd k
+    by_stage (stage.Gathering side wanted reader) is k = absurd k
+    by_stage stage.AtReuse is (e, k) = record {
+      group = note.Reuse c (is_whole old.ends.server) ∷ [];
+      notes = k.noted;
+      tells = ap (λ x. x.edges) k.becomes.ends;
+      along = λ g a l serves h awake. as_goes e g a l (note.Reuse c (is_whole old.ends.server) ∷ []) (reuses s g serves a l c old new h before after is (here stage.AtReuse is g a l h) k);
+    }
+    by_stage (stage.GivingUp w) is (e, k, quiet) = record {
+      group = [];
+      notes = none quiet;
+      tells = ap (λ x. x.edges) (next_ends s event.Leaving 0 k.mid new k.goes ∙ k.ends);
+      along = λ g a l serves h awake. as_goes e g a l [] (gives_up s g serves a l c old new h w is (here (stage.GivingUp w) is g a l h) k);
+    }
+    by_stage (stage.Retiring w) is (e, k) = record {
+      group = closed_notes c (is_empty (queue_in Server old));
+      notes = k.noted;
+      tells = ap (λ x. x.edges) k.becomes.ends;
+      along = λ g a l serves h awake. as_goes e g a l (closed_notes c (is_empty (queue_in Server old))) (retires s g serves a l c old new h w before after is (here (stage.Retiring w) is g a l h) k);
+    }
+    by_stage (stage.Heading side) is (spoken, k) = record {
+      group = gate_group (ends_room side old.ends) c (cut_of old);
+      notes = heading_noted s c side old new before after did k;
+      tells = heading_tells s c side old new before after did k;
+      along = λ g a l serves h awake. sends_head s g serves a l c old new h side is (here (stage.Heading side) is g a l h) spoken before after did k;
+    }
+    by_stage (stage.Forwarding side reader standing) is (spoken, k) = record {
+      group = part_group (part_at side k.to) side k.to.at.reader c (passed_to side k.to old);
+      notes = forwards_noted s c side reader standing old new before after did k;
+      tells = part_tells s c (passed_to side k.to old) new before after did side k.to.at.reader k.to.at.standing (part_at side k.to) k.goes ∙ ap (edges_noted (part_group (part_at side k.to) side k.to.at.reader c (passed_to side k.to old))) (forwards_edges side _ k.to k.passes);
+      along = λ g a l serves h awake. forwards_body s g serves a l c old new h spoken side reader standing is before after did k;
+    }
+    by_stage stage.AtResponse is (spoken, k) = record {
+      group = reply_group (answer_of (http_in old.host).came k.to.server) c (with_ends k.to old);
+      notes = response_noted s c old new before after did k;
+      tells = reply_tells s c (with_ends k.to old) new before after did (answer_of (http_in old.host).came k.to.server) k.goes ∙ ap (edges_noted (reply_group (answer_of (http_in old.host).came k.to.server) c (with_ends k.to old))) (interims_edges (http_in old.host).came old.ends k.to k.passes);
+      along = λ g a l serves h awake. reads_response s g serves a l c old new h is spoken before after did k;
+    }
     by_stage (stage.Dropping reader) is (spoken, k) = record {
       group = front_group c (dropped k.left k.size old) (left_front reader s c old new before after did k);
       notes = front_noted s c (dropped k.left k.size old) new before after did (left_front reader s c old new before after did k) k.goes;
@@ -357,7 +240,7 @@ rest_quiet s c old new before after (Some reason) k = absurd (let e = k.0 in cc)
 
 or_quiet : (s : code_setup.Setup) (c : ℕ) (base new : Conn) (before after : List Note) → GoesOrRests s c base new before after done.Rests → after ≡ before
 or_quiet s c base new before after (inl goes) = absurd (let e = goes in cc)
-or_quiet s c base new before after (inr k) = rest_quiet s c base new before after (cut_of base) k
+or_quiet s c base new before after (inr (w, k)) = rest_quiet s c base new before after (cut_by w base) k
 
 answer_quiet : (s : code_setup.Setup) (c : ℕ) (k : Link) (old new : Conn) (before after : List Note) → AnswersBy k s c old new before after done.Rests → after ≡ before
 answer_quiet s c link.Made old new before after k = k.2
@@ -366,6 +249,7 @@ answer_quiet s c link.Absent old new before after k = rest_quiet s c old new bef
 answer_quiet s c link.Asked old new before after k = rest_quiet s c old new before after (cut_of old) k
 answer_quiet s c link.Up old new before after k = rest_quiet s c old new before after (cut_of old) k
 answer_quiet s c link.GivenUp old new before after k = rest_quiet s c old new before after (cut_of old) k
+answer_quiet s c (link.Leaving w) old new before after k = rest_quiet s c old new before after (cut_of old) k
 
 connect_quiet : (s : code_setup.Setup) (c : ℕ) (to : Addr) (old new : Conn) (before after : List Note) → ConnectsNext s c to old new before after done.Rests → after ≡ before
 connect_quiet s c to old new before after k = by_test (is_empty (queue_in Server old)) k
@@ -424,7 +308,13 @@ rests_quiet s c old new before after ticks k = by_stage old.stage k
     by_stage stage.Collecting k = collect_quiet s c (meets old.host.net.client.asks old.ends.client.unread) old new before after k
     by_stage stage.AtHead (spoken, k) = or_quiet s c old new before after (head_or s c old new before after done.Rests (head_part old.ends.client.unread old.ends.client.ended) k)
     by_stage stage.Continuing (spoken, k) = or_quiet s c old new before after (tells_or s c old new before after done.Rests k)
-    by_stage (stage.Gathering wanted reader) k = absurd k
+    by_stage (stage.Gathering side wanted reader) k = absurd k
+    by_stage stage.AtReuse k = absurd (let e = k.0 in cc)
+    by_stage (stage.GivingUp w) k = absurd (let e = k.0 in cc)
+    by_stage (stage.Retiring w) k = absurd (let e = k.0 in cc)
+    by_stage (stage.Heading side) (spoken, k) = or_quiet s c old new before after (heading_or s c old new before after done.Rests side k)
+    by_stage (stage.Forwarding side reader standing) (spoken, k) = or_quiet s c (passed_to side k.to old) new before after (forwards_or s c old new before after done.Rests side reader standing k)
+    by_stage stage.AtResponse (spoken, k) = or_quiet s c (with_ends k.to old) new before after (answers_or s c old new before after done.Rests k)
     by_stage (stage.Dropping reader) (spoken, k) = or_quiet s c (dropped k.left k.size old) new before after (drops_or s c reader old new before after done.Rests k)
     by_stage stage.Releasing k = release_quiet s c old new before after k
     by_stage (stage.Relaying first) k = relay_quiet s c (relay_plan first old.host.net old.ends) old new before after k
@@ -440,7 +330,7 @@ rest_same s c old new before after (Some reason) k = absurd (let e = k.0 in cc)
 
 or_same : (s : code_setup.Setup) (c : ℕ) (base new : Conn) (before after : List Note) → GoesOrRests s c base new before after done.Rests → new ≡ base
 or_same s c base new before after (inl goes) = absurd (let e = goes in cc)
-or_same s c base new before after (inr k) = rest_same s c base new before after (cut_of base) k
+or_same s c base new before after (inr (w, k)) = rest_same s c base new before after (cut_by w base) k
 
 answer_same : (s : code_setup.Setup) (c : ℕ) (k : Link) (old new : Conn) (before after : List Note) → AnswersBy k s c old new before after done.Rests → new ≡ old
 answer_same s c link.Made old new before after k = absurd (let e = k.0 in cc)
@@ -449,6 +339,7 @@ answer_same s c link.Absent old new before after k = rest_same s c old new befor
 answer_same s c link.Asked old new before after k = rest_same s c old new before after (cut_of old) k
 answer_same s c link.Up old new before after k = rest_same s c old new before after (cut_of old) k
 answer_same s c link.GivenUp old new before after k = rest_same s c old new before after (cut_of old) k
+answer_same s c (link.Leaving w) old new before after k = rest_same s c old new before after (cut_of old) k
 
 connect_same : (s : code_setup.Setup) (c : ℕ) (to : Addr) (old new : Conn) (before after : List Note) → ConnectsNext s c to old new before after done.Rests → new ≡ old
 connect_same s c to old new before after k = by_test (is_empty (queue_in Server old)) k
@@ -511,7 +402,13 @@ rests_asking s c old new before after ticks k = by_stage old.stage refl k
     by_stage stage.Collecting is k = as_before (collect_same s c (meets old.host.net.client.asks old.ends.client.unread) old new before after k)
     by_stage stage.AtHead is (spoken, k) = as_before (or_same s c old new before after (head_or s c old new before after done.Rests (head_part old.ends.client.unread old.ends.client.ended) k))
     by_stage stage.Continuing is (spoken, k) = as_before (or_same s c old new before after (tells_or s c old new before after done.Rests k))
-    by_stage (stage.Gathering wanted reader) is k = absurd k
+    by_stage (stage.Gathering side wanted reader) is k = absurd k
+    by_stage stage.AtReuse is k = absurd (let e = k.0 in cc)
+    by_stage (stage.GivingUp w) is k = absurd (let e = k.0 in cc)
+    by_stage (stage.Retiring w) is k = absurd (let e = k.0 in cc)
+    by_stage (stage.Heading side) is (spoken, k) = as_before (or_same s c old new before after (heading_or s c old new before after done.Rests side k))
+    by_stage (stage.Forwarding side reader standing) is (spoken, k) = ap (λ x. is_asking x.stage) (or_same s c (passed_to side k.to old) new before after (forwards_or s c old new before after done.Rests side reader standing k)) ∙ sym (ap is_asking is)
+    by_stage stage.AtResponse is (spoken, k) = ap (λ x. is_asking x.stage) (or_same s c (with_ends k.to old) new before after (answers_or s c old new before after done.Rests k))
     by_stage (stage.Dropping reader) is (spoken, k) =
         ap (λ x. is_asking x.stage) (or_same s c (dropped k.left k.size old) new before after (drops_or s c reader old new before after done.Rests k)) ∙ sym (ap is_asking is)
     by_stage stage.Releasing is k = as_before (release_same s c old new before after k)
@@ -528,7 +425,7 @@ rest_asks_not s c old new before after call (Some reason) k = let e = k.0 in cc
 
 or_asks_not : (s : code_setup.Setup) (c : ℕ) (base new : Conn) (before after : List Note) (call : List (List ℕ)) → GoesOrRests s c base new before after (done.Asks call) → ⊥
 or_asks_not s c base new before after call (inl goes) = let e = goes in cc
-or_asks_not s c base new before after call (inr k) = rest_asks_not s c base new before after call (cut_of base) k
+or_asks_not s c base new before after call (inr (w, k)) = rest_asks_not s c base new before after call (cut_by w base) k
 
 answer_asks_not : (s : code_setup.Setup) (c : ℕ) (k : Link) (old new : Conn) (before after : List Note) (call : List (List ℕ)) → AnswersBy k s c old new before after (done.Asks call) → ⊥
 answer_asks_not s c link.Made old new before after call k = let e = k.0 in cc
@@ -537,6 +434,7 @@ answer_asks_not s c link.Absent old new before after call k = rest_asks_not s c 
 answer_asks_not s c link.Asked old new before after call k = rest_asks_not s c old new before after call (cut_of old) k
 answer_asks_not s c link.Up old new before after call k = rest_asks_not s c old new before after call (cut_of old) k
 answer_asks_not s c link.GivenUp old new before after call k = rest_asks_not s c old new before after call (cut_of old) k
+answer_asks_not s c (link.Leaving w) old new before after call k = rest_asks_not s c old new before after call (cut_of old) k
 
 connect_asks_not : (s : code_setup.Setup) (c : ℕ) (to : Addr) (old new : Conn) (before after : List Note) (call : List (List ℕ)) → ConnectsNext s c to old new before after (done.Asks call) → ⊥
 connect_asks_not s c to old new before after call k = by_test (is_empty (queue_in Server old)) k
@@ -600,7 +498,13 @@ asks_there s c old new before after call ticks k = by_stage old.stage k
     by_stage stage.Collecting k = absurd (collect_asks_not s c (meets old.host.net.client.asks old.ends.client.unread) old new before after call k)
     by_stage stage.AtHead (spoken, k) = absurd (or_asks_not s c old new before after call (head_or s c old new before after (done.Asks call) (head_part old.ends.client.unread old.ends.client.ended) k))
     by_stage stage.Continuing (spoken, k) = absurd (or_asks_not s c old new before after call (tells_or s c old new before after (done.Asks call) k))
-    by_stage (stage.Gathering wanted reader) k = absurd k
+    by_stage (stage.Gathering side wanted reader) k = absurd k
+    by_stage stage.AtReuse k = absurd (let e = k.0 in cc)
+    by_stage (stage.GivingUp w) k = absurd (let e = k.0 in cc)
+    by_stage (stage.Retiring w) k = absurd (let e = k.0 in cc)
+    by_stage (stage.Heading side) (spoken, k) = absurd (or_asks_not s c old new before after call (heading_or s c old new before after (done.Asks call) side k))
+    by_stage (stage.Forwarding side reader standing) (spoken, k) = absurd (or_asks_not s c (passed_to side k.to old) new before after call (forwards_or s c old new before after (done.Asks call) side reader standing k))
+    by_stage stage.AtResponse (spoken, k) = absurd (or_asks_not s c (with_ends k.to old) new before after call (answers_or s c old new before after (done.Asks call) k))
     by_stage (stage.Dropping reader) (spoken, k) = absurd (or_asks_not s c (dropped k.left k.size old) new before after call (drops_or s c reader old new before after (done.Asks call) k))
     by_stage stage.Releasing k = absurd (release_asks_not s c old new before after call k)
     by_stage (stage.Relaying first) k = absurd (relay_asks_not s c (relay_plan first old.host.net old.ends) old new before after call k)

@@ -10,10 +10,10 @@ use Rattle.conn_trace.specs.Further.{Coming, nothing_further, nothing_comes, lon
 use Rattle.conn_trace.specs.Heard.{taken_by}
 use Rattle.conn_trace.specs.Item.{Choice}
 use Rattle.conn_trace.specs.Setup.{Handler, Setup}
-use Rattle.conn_trace.specs.State.{Cut, ServerSide, Stream, There, TraceState, Retired}
+use Rattle.conn_trace.specs.State.{Cut, ServerSide, Stream, There, TraceState, Leaving, Retired}
 use Rattle.conn_trace.proofs.Streams.{nothing_stream, nothing_server, nothing_on_last}
 use Rattle.conn.specs.Calls.{Hears, Resets, coming_of, ended_ends, heard_ends, none_at_last, reset_end, reset_ends, reset_in, unless_finished}
-use Rattle.conn.specs.Ends.{arrived, connects_by, fresh_end, has_stream, heard_by, heard_end, hears_at, is_up, server_by, servers_by, number_by}
+use Rattle.conn.specs.Ends.{arrived, behind_of, connects_by, fresh_end, has_stream, heard_by, heard_end, hears_at, is_up, server_by, servers_by, number_by}
 use Rattle.conn.specs.Events.{event_of}
 use Rattle.conn.specs.Holds.{Around, Between, Holds, HoldsEnds, RunsFirst, Stands}
 use Rattle.conn.specs.Stages.{fits, has_finished}
@@ -55,7 +55,13 @@ stands g (stage.Answering to) l s v k c x r = (r.0, between l s v k c x r.1)
 stands g stage.Collecting l s v k c x r = (r.0, between l s v k c x r.1)
 stands g stage.AtHead l s v k c x r = (r.0, between l s v k c x r.1)
 stands g stage.Continuing l s v k c x r = (r.0, between l s v k c x r.1)
-stands g (stage.Gathering wanted reader) l s v k c x r = (r.0, between l s v k c x r.1)
+stands g (stage.Gathering side wanted reader) l s v k c x r = (r.0, between l s v k c x r.1)
+stands g stage.AtReuse l s v k c x r = (r.0, between l s v k c x r.1)
+stands g (stage.GivingUp w) l s v k c x r = (r.0, between l s v k c x r.1)
+stands g (stage.Retiring w) l s v k c x r = (r.0, between l s v k c x r.1)
+stands g (stage.Heading side) l s v k c x r = (r.0, between l s v k c x r.1)
+stands g (stage.Forwarding side reader standing) l s v k c x r = (r.0, between l s v k c x r.1)
+stands g stage.AtResponse l s v k c x r = (r.0, between l s v k c x r.1)
 stands g (stage.Dropping reader) l s v k c x r = (r.0, between l s v k c x r.1)
 stands g stage.Releasing l s v k c x r = (r.0, between l s v k c x r.1)
 stands g (stage.Relaying first) l s v k c x r = (r.0, between l s v k c x r.1)
@@ -70,7 +76,7 @@ holds g a b l s v k c x h e f up lone = record {
   finished = h.finished;
   fits = f;
   event = h.event;
-  told = record { from = h.told.from; relays = λ r. up (h.told.relays r); spoken = h.told.spoken; alone = λ e. lone (h.told.alone e) };
+  told = record { from = h.told.from; relays = λ r. up (h.told.relays r); spoken = h.told.spoken };
   ends = e;
   no_choice = h.no_choice;
   no_cut = h.no_cut;
@@ -166,6 +172,7 @@ server_grows c link.Refused s = refl
 server_grows c link.Made s = refl
 server_grows c link.Up s = ap There (heard_arrived c s)
 server_grows c link.GivenUp s = ap Retired (heard_arrived c s)
+server_grows c (link.Leaving w) s = ap (Leaving (behind_of w)) (heard_arrived c s)
 
 connects_grow : (c : Coming) (k : Link) (s : End) → on_last c (connects_by k s) ++ [] ≡ connects_by k (if has_stream k then heard_end c s else s)
 connects_grow c link.Absent s = refl
@@ -174,6 +181,7 @@ connects_grow c link.Refused s = refl
 connects_grow c link.Made s = ap (λ x. Some x ∷ []) (heard_arrived c s)
 connects_grow c link.Up s = refl
 connects_grow c link.GivenUp s = refl
+connects_grow c (link.Leaving w) s = refl
 
 -- by whether bytes of a server may come
 abbrev heard_where : (b : Bool) (c : Coming) (s : End) → End
@@ -288,6 +296,7 @@ none_taken_by ts link.Refused b n = refl
 none_taken_by ts link.Made b n = none_behind ts (taken_by b n)
 none_taken_by ts link.Up b n = none_behind ts (taken_by b n)
 none_taken_by ts link.GivenUp b n = none_behind ts (taken_by b n)
+none_taken_by ts (link.Leaving w) b n = none_behind ts (taken_by b n)
 
 -- by whether bytes of a server may come
 abbrev reset_where : Bool → End → End
@@ -308,6 +317,7 @@ reset_same true link.Refused s = (refl, refl, refl)
 reset_same true link.Made s = (refl, refl, refl)
 reset_same true link.Up s = (refl, refl, refl)
 reset_same true link.GivenUp s = (refl, refl, refl)
+reset_same true (link.Leaving w) s = (refl, refl, refl)
 reset_same false k s = (refl, refl, refl)
 
 pub resets_ends : (a : Around) (l : TraceState) (side : Side) (e : Ends) → HoldsEnds a l e → HoldsEnds (reset_in side a) l (reset_ends side e)

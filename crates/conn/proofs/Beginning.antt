@@ -63,7 +63,7 @@ begins s from host new made there vars same ends g serves came =
     let first : seen_host host ≡ first_host g =
     ap seen_host made
     ∙ sym (ap (λ a. S a g.port g.pool g.http) came ∙ ap (λ n. S from n g.pool g.http) serves.port ∙ ap (λ p. S from s.port p g.http) serves.pool ∙ ap (λ b. S from s.port s.pool.now b) serves.http) in
-    let known : Known g link.Absent host = record { from = ap (λ h. h.net.from) made ∙ sym came; spoken = ap (λ h. is_some h.http) made ∙ fresh_speaks s.http ∙ sym serves.http; alone = λ e. refl } in
+    let known : Known g host = record { from = ap (λ h. h.net.from) made ∙ sym came; spoken = ap (λ h. is_some h.http) made ∙ fresh_speaks s.http ∙ sym serves.http } in
     let k = enters_gone g (before_start g) s serves Accepted host fresh_ends new new (record { there = there ∙ ap (entered_stage s Accepted link.Absent) (sym same); vars = refl; host = begins_so; ends = ends }) (sym vars) refl known refl refl (λ e. absurd (cc)) in
     let P : HostState → Type 0 = λ h. Holds g fresh (put (enter g ClientAccepted Absent h) (before_start g)) new in (
       subst P first (gone_holds g fresh false (enter g ClientAccepted Absent (seen_host host)) (before_start g) fresh_ends new k refl (first_ends g (seen_host host)) refl refl),

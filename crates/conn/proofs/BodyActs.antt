@@ -5,7 +5,7 @@ use Rattle.std.proofs.lemmas.List.{length-append}
 use Rattle.std.proofs.lemmas.Option.{slice_get_past}
 use Rattle.px_bytes.specs.declared.addr.Side.TheVariants.{Client, Server}
 use Rattle.rule_model.specs.Host as effect
-use Rattle.rule_model.specs.Outcome.{Act, Did, State, Outcome, Ends, Waits as Stops, uncaught_of}
+use Rattle.rule_model.specs.Outcome.{Act, Did, State, Outcome, Ends}
 use Rattle.rule_model.specs.Outcome as act
 use Rattle.rule_model.specs.Laws.{state_after}
 use Rattle.rule_model.specs.declared.code.Code.{Code}

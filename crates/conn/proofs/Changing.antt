@@ -4,7 +4,7 @@ use Rattle.std.specs.Bool.{MatchBool}
 use Rattle.px_bytes.specs.declared.fault.FaultKind.{FaultKind}
 use Rattle.conn.specs.Acts.{BehindFault}
 use Rattle.conn.specs.Changes.{GoesTo, Leaves, NextBody, StartsBody}
-use Rattle.conn.specs.Events.{is_closed}
+use Rattle.conn.specs.Events.{is_closing}
 use Rattle.conn.specs.Setups.{places_at}
 use Rattle.conn.specs.declared.connection.Conn.{Conn}
 use Rattle.conn.specs.declared.events.At.{At}
@@ -31,6 +31,8 @@ module _ (s : Setup) (from : Stage) (old new : Conn) where
   leaves event.Failed k = goes _ k
   leaves event.Connected k = goes _ k
   leaves event.Request k = goes _ k
+  leaves event.Response k = goes _ k
+  leaves event.Leaving k = goes _ k
   leaves event.ServerData k = goes _ k
   leaves event.ServerClosed k = record { mid = k.mid; begins = record { vars = k.begins.vars; host = k.begins.host; ends = k.begins.ends }; goes = k.goes }
   leaves event.Closed k = goes _ k
@@ -43,7 +45,7 @@ module _ (s : Setup) (from : Stage) (old new : Conn) where
       by_test false k = leaves at k
 
   pub behind_fault : (at : At) (n : ℕ) (kind : FaultKind) → BehindFault s at n kind mid new → BehindFault s at n kind old new
-  behind_fault at n kind k = by_test (is_closed at) k
+  behind_fault at n kind k = by_test (is_closing at) k
     where
       by_test : (b : Bool) → MatchBool b (NextBody s at n mid new) (GoesTo (stage.Finishing (finish.Fault kind)) mid new) → MatchBool b (NextBody s at n old new) (GoesTo (stage.Finishing (finish.Fault kind)) old new)
       by_test true k = next at n k

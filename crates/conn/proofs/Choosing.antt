@@ -15,7 +15,7 @@ use Rattle.conn_trace.specs.Trace.{next_item}
 use Rattle.conn.specs.Changes.{Enters}
 use Rattle.conn.specs.Choosing.{AsksFor, Chooses, ChoosesBy, TakesChosen, asked_call, default_plan, plan_by, wanted_of}
 use Rattle.conn.specs.Ends.{is_sought, is_up, link_by}
-use Rattle.conn.specs.Events.{event_of, is_closed}
+use Rattle.conn.specs.Events.{event_of, is_closing}
 use Rattle.conn.specs.Holds.{Around, Between, Holds, Stands, call_by, call_of}
 use Rattle.conn.specs.Hosts.{seen_host, selected_host}
 use Rattle.conn.specs.Setups.{Serves}
@@ -36,14 +36,14 @@ use Rattle.conn.proofs.SelectItems.{asking, choosing_item, node, picked, selecte
 
 module _ (s : code_setup.Setup) (g : Setup) (serves : Serves s g) (a : Around) (l : TraceState) (c : ℕ) (old new : Conn) (h : Holds g a l old) where
   -- an event is entered behind a reply or a choice, while there is no server connection
-  entered : (at : At) (host : RuleHost) (l' : TraceState) → Enters s at host old.ends old new → l'.vars ≡ old.vars → l'.answers.replies ≡ [] → Known g old.ends.link host → at_fits at old.ends.link ≡ true → is_closed at ≡ false → (at ≡ event.ServerClosed → ⊥)
+  entered : (at : At) (host : RuleHost) (l' : TraceState) → Enters s at host old.ends old new → l'.vars ≡ old.vars → l'.answers.replies ≡ [] → Known g host → at_fits at old.ends.link ≡ true → is_closing at ≡ false → (at ≡ event.ServerClosed → ⊥)
       → SameBeside l l' → l'.sent ≡ l.sent → l.finished ≡ false → next_item g l ≡ Does Resumed (put (enter g (event_of at) (link_by old.ends.link) (seen_host host)) l') → ActGave g a l c old new [] done.Goes
   entered at host l' k vars replies known fit open_yet plain same sent going step =
       let p = enter g (event_of at) (link_by old.ends.link) (seen_host host) in
       let gone = enters_gone g l' s serves at host old.ends old new k vars replies known fit open_yet plain in
       record {
         at = put p l';
-        gave = gave_one g a l (put p l') c old new Resumed h.no_cut (record { calls = refl; client = refl; kept = refl; to_none = refl; opens = λ c s t. refl; takes = (refl, λ t. refl) }) step refl
+        gave = gave_one g a l (put p l') c old new Resumed h.no_cut (record { calls = refl; client = refl; to_none = refl; opens = λ c s t. refl; takes = (refl, λ t. refl) }) step refl
             (gone_holds g a false p l' old.ends new gone (same.finished ∙ going) (ends_kept a l (put p l') old.ends old.ends h.ends same.client same.server same.connects sent refl) (same.choices ∙ h.no_choice) (same.cut ∙ h.no_cut))
             (ap (λ e. e.client.queued) gone.ends) (same_queue gone.ends) (ap (λ e. e.edges) gone.ends) (λ f. same.finished ∙ f);
         stops = gone.awake;
@@ -67,13 +67,13 @@ module _ (s : code_setup.Setup) (g : Setup) (serves : Serves s g) (a : Around) (
       let waits : next_item g at ≡ Waits (ForReply call) = unreplied g (link_by old.ends.link) hs at call (record { phase = refl; host = refl; link = link_is a l old.ends h.ends; no_cut = h.no_cut }) b.replies in
       subst (λ d. ActGave g a l c old new [] d) (sym (k.asks ∙ ap done.Asks (sym (call_is pool (wanted_of only))))) (record {
         at = at;
-        gave = gave_one g a l at c old new (Called call) h.no_cut (record { calls = refl; client = refl; kept = refl; to_none = refl; opens = λ c s t. refl; takes = (refl, λ t. refl) }) step refl
+        gave = gave_one g a l at c old new (Called call) h.no_cut (record { calls = refl; client = refl; to_none = refl; opens = λ c s t. refl; takes = (refl, λ t. refl) }) step refl
             (record {
               stage = subst (λ x. Stands g x at new) (sym k.there) stands;
               finished = going ∙ ap has_finished (sym k.there);
               fits = ap (λ x. fits x new.ends.link) k.there ∙ ap (λ e. not (is_sought e.link)) k.ends ∙ fit;
               event = subst (λ x. HostIn x new.host.event) (sym k.there) tt;
-              told = told_of g new.ends.link new.host (known_same g old.ends.link new.ends.link old.host new.host (ap (λ x. x.net.from) k.host) (ap (λ x. is_some x.http) k.host) (ap (λ e. e.link) k.ends) (known g old.ends.link old.host h.told)) (λ r. ap (λ e. is_up e.link) k.ends ∙ h.told.relays (ap (λ x. x.net.relays) (sym k.host) ∙ r));
+              told = told_of g new.ends.link new.host (known_same g old.host new.host (ap (λ x. x.net.from) k.host) (ap (λ x. is_some x.http) k.host) (known g old.ends.link old.host h.told)) (λ r. ap (λ e. is_up e.link) k.ends ∙ h.told.relays (ap (λ x. x.net.relays) (sym k.host) ∙ r));
               ends = ends_kept a l at old.ends new.ends h.ends refl refl refl refl k.ends;
               no_choice = h.no_choice;
               no_cut = h.no_cut;
@@ -107,7 +107,7 @@ module _ (s : code_setup.Setup) (g : Setup) (serves : Serves s g) (a : Around) (
       by_pool : (pool : List ℕ) → old.host.net.pool ≡ pool → old.host.net.target ≡ Default → ChoosesBy (default_plan pool) s old new did → ActGave g a l c old new [] did
       by_pool [] p e (goes, k) =
           subst (λ d. ActGave g a l c old new [] d) (sym goes)
-          (entered event.Failed (selected_host None old.host) l k b.vars b.replies (record { from = h.told.from; spoken = h.told.spoken; alone = h.told.alone }) fit refl (λ x. cc) same refl going (leads Default e ∙ ap (default_leads g (link_by old.ends.link) l (seen_host old.host)) p))
+          (entered event.Failed (selected_host None old.host) l k b.vars b.replies (record { from = h.told.from; spoken = h.told.spoken }) fit refl (λ x. cc) same refl going (leads Default e ∙ ap (default_leads g (link_by old.ends.link) l (seen_host old.host)) p))
       by_pool (x ∷ xs) p e k =
           asks (x ∷ xs) None did b going fit k (ap (call_by g old.host.net.pool) e ∙ ap (λ y. select_call g y any_member) p) (leads Default e ∙ ap (default_leads g (link_by old.ends.link) l (seen_host old.host)) p)
 
@@ -117,7 +117,7 @@ module _ (s : code_setup.Setup) (g : Setup) (serves : Serves s g) (a : Around) (
       by_target (MemberOf name addr) e k = asks name (Some addr) did b going fit k (ap (call_by g old.host.net.pool) e) (leads (MemberOf name addr) e)
       by_target (NodeAt addr) e (goes, k) =
           subst (λ d. ActGave g a l c old new [] d) (sym goes)
-          (entered event.Selected (selected_host (Some (node addr)) old.host) l k b.vars b.replies (record { from = h.told.from; spoken = h.told.spoken; alone = h.told.alone }) fit refl (λ x. cc) same refl going (leads (NodeAt addr) e))
+          (entered event.Selected (selected_host (Some (node addr)) old.host) l k b.vars b.replies (record { from = h.told.from; spoken = h.told.spoken }) fit refl (λ x. cc) same refl going (leads (NodeAt addr) e))
 
   -- by the reply that came
   pub chosen : (addr : Option Addr) → old.stage ≡ stage.Chosen addr → Stands g (stage.Chosen addr) l old → TakesChosen s addr old new → ActGave g a l c old new [] done.Goes
@@ -141,7 +141,7 @@ module _ (s : code_setup.Setup) (g : Setup) (serves : Serves s g) (a : Around) (
       leads x e = step ∙ ap (λ y. Does Resumed (put (picked g (link_by old.ends.link) (seen_host old.host) (selected_by (seen_host old.host) y)) (with_replies [] l))) e
 
       by_addr : (x : Option Addr) → addr ≡ x → TakesChosen s x old new → ActGave g a l c old new [] done.Goes
-      by_addr None e k = entered event.Failed old.host (with_replies [] l) k r.vars refl (record { from = h.told.from; spoken = h.told.spoken; alone = h.told.alone }) fit refl (λ x. cc) same refl going (leads None e)
+      by_addr None e k = entered event.Failed old.host (with_replies [] l) k r.vars refl (record { from = h.told.from; spoken = h.told.spoken }) fit refl (λ x. cc) same refl going (leads None e)
       by_addr (Some x) e k =
           let o = selected_by (seen_host old.host) (Some x) in
-          entered event.Selected (selected_host o old.host) (with_replies [] l) k r.vars refl (record { from = h.told.from; spoken = h.told.spoken; alone = h.told.alone }) fit refl (λ y. cc) same refl going (leads (Some x) e)
+          entered event.Selected (selected_host o old.host) (with_replies [] l) k r.vars refl (record { from = h.told.from; spoken = h.told.spoken }) fit refl (λ y. cc) same refl going (leads (Some x) e)

@@ -1,5 +1,5 @@
 -- Before there is a server the client's bytes are collected.
-use Rattle.std.proofs.Common.{◌≡◌, refl, sym, ap, subst, ◌∙◌, ℕ, List, [], ◌∷◌, ◌++◌, length, Bool, true, false, true≢false, not, nat_le, Option, Some, None, if◌then◌else◌}
+use Rattle.std.proofs.Common.{◌≡◌, refl, sym, ap, subst, ◌∙◌, ℕ, List, [], ◌∷◌, ◌++◌, length, Bool, true, false, not, nat_le, Option, Some, None, if◌then◌else◌}
 use Rattle.std.proofs.lemmas.Bool.{or_right}
 use Rattle.px_bytes.specs.declared.addr.Side.TheVariants.{Client}
 use Rattle.irule_net.specs.declared.state.Asks.{Asks}
@@ -8,7 +8,7 @@ use Rattle.conn_trace.specs.Gates.{TakenCounts}
 use Rattle.conn_trace.specs.Item.{Choice, Fires}
 use Rattle.conn_trace.specs.Relay.{behind_fires, collect_act, meets, ready, Firing, Resting}
 use Rattle.conn_trace.specs.Setup.{Setup}
-use Rattle.conn_trace.specs.State.{Collecting, TraceState, Waits, Over, ForRelay, Nothing, IsMet, Ready, link_of, with_choices}
+use Rattle.conn_trace.specs.State.{Collecting, TraceState, Waits, ForRelay, Nothing, IsMet, Ready, link_of, with_choices}
 use Rattle.conn_trace.specs.Trace.{GivesNoMore, collect_next, collecting_next, counted, fired_next, next_item}
 use Rattle.core_events.specs.declared.note.CutReason.{CutReason}
 use Rattle.core_events.specs.declared.note.Note.{Note}
@@ -22,7 +22,7 @@ use Rattle.conn.specs.declared.connection.Conn.{Conn}
 use Rattle.conn.specs.declared.setup.Setup as code_setup
 use Rattle.conn.specs.declared.stage.Stage.TheVariants as stage
 use Rattle.conn.specs.declared.turn.Act as step_act
-use Rattle.conn.proofs.Acting.{ActGave, rest_group, rest_noted, rests_gave}
+use Rattle.conn.proofs.Acting.{ActGave, rest_group, rest_noted, rests_gave, plain_rest}
 use Rattle.conn.proofs.Firing.{fires_client}
 use Rattle.conn.proofs.SelectItems.{next_in}
 
@@ -56,22 +56,22 @@ module _ (g : Setup) (asks : Asks) (u : List ℕ) (l : TraceState) (r : InCollec
       ∙ ap (λ b. counted l.sent (collect_next g l (if b then Firing Client n [] else Resting))) (ap (λ x. nat_le n (length x)) r.unread ∙ met)
 
   -- where it isn't met it rests
-  collect_rests : (took : TakenCounts) → l.answers.choices ≡ [] → meets asks u ≡ None → GivesNoMore false l.sent took (next_item g l) × (next_item g l ≡ Over → ⊥)
+  collect_rests : (took : TakenCounts) → l.answers.choices ≡ [] → meets asks u ≡ None → GivesNoMore false l.sent took (next_item g l) × (plain_rest (next_item g l) ≡ true)
   collect_rests took none unmet = by_asks asks refl
     where
-      by_kind : (ready : Ready) → ready ≡ Nothing → next_item g l ≡ Waits (ForRelay ready Nothing) → GivesNoMore false l.sent took (next_item g l) × (next_item g l ≡ Over → ⊥)
+      by_kind : (ready : Ready) → ready ≡ Nothing → next_item g l ≡ Waits (ForRelay ready Nothing) → GivesNoMore false l.sent took (next_item g l) × (plain_rest (next_item g l) ≡ true)
       by_kind kind is step =
           let there = step ∙ ap (λ x. Waits (ForRelay x Nothing)) is in
-          (subst (λ o. GivesNoMore false l.sent took o) (sym there) refl, λ o. let e = sym there ∙ o in cc)
+          (subst (λ o. GivesNoMore false l.sent took o) (sym there) refl, ap plain_rest there)
 
       by_met : (n : ℕ) (b : Bool) → nat_le n (length u) ≡ b → (if b then Some n else None) ≡ None → (if b then IsMet else Nothing) ≡ Nothing
       by_met n true e s = absurd (let x = s in cc)
       by_met n false e s = refl
 
-      by_asks : (x : Asks) → asks ≡ x → GivesNoMore false l.sent took (next_item g l) × (next_item g l ≡ Over → ⊥)
+      by_asks : (x : Asks) → asks ≡ x → GivesNoMore false l.sent took (next_item g l) × (plain_rest (next_item g l) ≡ true)
       by_asks NotAsked is =
           let step = collects_next [] none NotAsked is in
-          (subst (λ o. GivesNoMore false l.sent took o) (sym step) refl, λ o. let e = sym step ∙ o in cc)
+          (subst (λ o. GivesNoMore false l.sent took o) (sym step) refl, ap plain_rest step)
       by_asks (Stated n) is =
           let unmet_there : (if nat_le n (length u) then Some n else None) ≡ None = ap (λ x. meets x u) (sym is) ∙ unmet in
           let is_nothing : ready (Stated n) u ≡ Nothing = by_met n (nat_le n (length u)) refl unmet_there in

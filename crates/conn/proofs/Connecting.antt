@@ -1,5 +1,5 @@
 -- Whether the server took the connection is the next of each state that the connection may stand for.
-use Rattle.std.proofs.Common.{◌≡◌, refl, sym, ap, subst, ◌∙◌, ◌+◌, [], ◌∷◌, ◌++◌, length, Bool, true, false, true≢false, ◌&&◌, not, Some, None, arith, ℕ}
+use Rattle.std.proofs.Common.{◌≡◌, refl, sym, ap, subst, ◌∙◌, ◌+◌, [], ◌∷◌, ◌++◌, length, Bool, true, false, true≢false, ◌&&◌, not, Some, None, arith}
 use Rattle.core_events.specs.Edges.{answered_edge, is_connecting}
 use Rattle.conn_trace.specs.Further.{nothing_comes, longer_server, left_for, on_last, longer}
 use Rattle.conn_trace.specs.State.{TraceState}
@@ -96,6 +96,8 @@ at_answer at.Selected k s f = absurd (let t : false ≡ true = f in cc)
 at_answer at.Failed k s f = absurd (let t : false ≡ true = f in cc)
 at_answer at.Connected k s f = absurd (let t : false ≡ true = f in cc)
 at_answer at.Request k s f = absurd (let t : false ≡ true = f in cc)
+at_answer at.Response k s f = absurd (let t : false ≡ true = f in cc)
+at_answer at.Leaving k s f = absurd (let t : false ≡ true = f in cc)
 at_answer at.ServerData k s f = absurd (let t : false ≡ true = f in cc)
 at_answer at.ServerClosed k s f = refl
 at_answer at.Closed k s f = refl
@@ -108,6 +110,8 @@ gate_answer at.Selected k s f = absurd (let t : false ≡ true = f in cc)
 gate_answer at.Failed k s f = absurd (let t : false ≡ true = f in cc)
 gate_answer at.Connected k s f = absurd (let t : false ≡ true = f in cc)
 gate_answer at.Request k s f = absurd (let t : false ≡ true = f in cc)
+gate_answer at.Response k s f = absurd (let t : false ≡ true = f in cc)
+gate_answer at.Leaving k s f = absurd (let t : false ≡ true = f in cc)
 gate_answer at.ServerData k s f = absurd (let t : false ≡ true = f in cc)
 gate_answer at.ServerClosed k s f = f
 gate_answer at.Closed k s f = f
@@ -125,7 +129,13 @@ answer_fits (stage.Answering to) k s u f = ap (λ x. x && not (is_up k)) s ∙ a
 answer_fits stage.Collecting k s u f = absurd (let t : false ≡ true = f in cc)
 answer_fits stage.AtHead k s u f = absurd (let t : false ≡ true = f in cc)
 answer_fits stage.Continuing k s u f = absurd (let t : false ≡ true = f in cc)
-answer_fits (stage.Gathering wanted reader) k s u f = absurd (let t : false ≡ true = f in cc)
+answer_fits (stage.Gathering side wanted reader) k s u f = absurd (let t : false ≡ true = f in cc)
+answer_fits stage.AtReuse k s u f = absurd (let t : false ≡ true = f in cc)
+answer_fits (stage.GivingUp w) k s u f = absurd (let t : false ≡ true = f in cc)
+answer_fits (stage.Retiring w) k s u f = absurd (let t : false ≡ true = f in cc)
+answer_fits (stage.Heading side) k s u f = absurd (let t : false ≡ true = f in cc)
+answer_fits (stage.Forwarding side reader standing) k s u f = absurd (let t : false ≡ true = f in cc)
+answer_fits stage.AtResponse k s u f = absurd (let t : false ≡ true = f in cc)
 answer_fits (stage.Dropping reader) k s u f = absurd (let t : false ≡ true = f in cc)
 answer_fits stage.Releasing k s u f = absurd (let t : false ≡ true = f in cc)
 answer_fits (stage.Relaying first) k s u f = absurd (let t : false ≡ true = f in cc)

@@ -85,6 +85,7 @@ made_is link.Refused ts b n = refl
 made_is link.Made ts b n = let k = length-append ts (taken_by b n ∷ []) in omega (arith, k)
 made_is link.Up ts b n = let k = length-append ts (taken_by b n ∷ []) in omega (arith, k)
 made_is link.GivenUp ts b n = let k = length-append ts (taken_by b n ∷ []) in omega (arith, k)
+made_is (link.Leaving w) ts b n = let k = length-append ts (taken_by b n ∷ []) in omega (arith, k)
 
 sent_is : (a : Around) (l : TraceState) (e : BothEnds) → HoldsEnds a l e → l.sent ≡ sent_by l.sent.server a e
 sent_is a l e h =
@@ -102,6 +103,7 @@ sent_is a l e h =
     by_link link.Made is = ap (λ x. if is_taken x then length e.server.queued + a.counted_server else l.sent.server) (sym is)
     by_link link.Up is = taken link.Up is refl refl ∙ ap (λ x. if is_taken x then length e.server.queued + a.counted_server else l.sent.server) (sym is)
     by_link link.GivenUp is = taken link.GivenUp is refl refl ∙ ap (λ x. if is_taken x then length e.server.queued + a.counted_server else l.sent.server) (sym is)
+    by_link (link.Leaving w) is = taken (link.Leaving w) is refl refl ∙ ap (λ x. if is_taken x then length e.server.queued + a.counted_server else l.sent.server) (sym is)
 
 abbrev own_parts : TraceState → Bool → Stream → ServerSide → Counts → List (Option Stream) → List Choice → Option Cut → TraceState
 own_parts l f t s n k ch cut = record l { finished = f; client = t; server = s; sent = n; answers = record l.answers { connects = k; choices = ch; cut = cut } }
@@ -296,7 +298,13 @@ module _ (g : Setup) (a : Around) (l : TraceState) (c : Conn) (h : Holds g a l c
   follows_at stage.Collecting is k = (0, between_follows (k.0 ∙ sym (ap (phase_at g c.host.net) is)) k.1)
   follows_at stage.AtHead is k = (0, between_follows (k.0 ∙ sym (ap (phase_at g c.host.net) is)) k.1)
   follows_at stage.Continuing is k = (0, between_follows (k.0 ∙ sym (ap (phase_at g c.host.net) is)) k.1)
-  follows_at (stage.Gathering wanted reader) is k = (0, between_follows (k.0 ∙ sym (ap (phase_at g c.host.net) is)) k.1)
+  follows_at (stage.Gathering side wanted reader) is k = (0, between_follows (k.0 ∙ sym (ap (phase_at g c.host.net) is)) k.1)
+  follows_at stage.AtReuse is k = (0, between_follows (k.0 ∙ sym (ap (phase_at g c.host.net) is)) k.1)
+  follows_at (stage.GivingUp w) is k = (0, between_follows (k.0 ∙ sym (ap (phase_at g c.host.net) is)) k.1)
+  follows_at (stage.Retiring w) is k = (0, between_follows (k.0 ∙ sym (ap (phase_at g c.host.net) is)) k.1)
+  follows_at (stage.Heading side) is k = (0, between_follows (k.0 ∙ sym (ap (phase_at g c.host.net) is)) k.1)
+  follows_at (stage.Forwarding side reader standing) is k = (0, between_follows (k.0 ∙ sym (ap (phase_at g c.host.net) is)) k.1)
+  follows_at stage.AtResponse is k = (0, between_follows (k.0 ∙ sym (ap (phase_at g c.host.net) is)) k.1)
   follows_at (stage.Dropping reader) is k = (0, between_follows (k.0 ∙ sym (ap (phase_at g c.host.net) is)) k.1)
   follows_at stage.Releasing is k = (0, between_follows (k.0 ∙ sym (ap (phase_at g c.host.net) is)) k.1)
   follows_at (stage.Relaying first) is k = (0, between_follows (k.0 ∙ sym (ap (phase_at g c.host.net) is)) k.1)

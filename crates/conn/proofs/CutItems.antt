@@ -1,17 +1,16 @@
 -- How a connection finishes, and a cut at a rest, by the fields of a trace's state.
-use Rattle.std.proofs.Common.{◌≡◌, ap, ◌∙◌, ⊎_elim, [], true, false, Some, None}
+use Rattle.std.proofs.Common.{◌≡◌, ap, ◌∙◌, [], true, false, Some, None}
 use Rattle.core_events.specs.declared.note.CutReason.{CutReason}
 use Rattle.conn_trace.specs.Further.{choosing, longer}
 use Rattle.conn_trace.specs.Gates.{TakenCounts}
 use Rattle.conn_trace.specs.Item.{CutBy, Finished, Reason}
-use Rattle.conn_trace.specs.Laws.{ends_rests, takes_cut}
+use Rattle.conn_trace.specs.Laws.{takes_cut}
 use Rattle.conn_trace.specs.Host.{HostState}
 use Rattle.conn_trace.specs.Places.{at as put, closed}
 use Rattle.conn_trace.specs.Setup.{Setup}
-use Rattle.conn_trace.specs.State.{Cut, Link, link_of, TraceState, Does, Over}
+use Rattle.conn_trace.specs.State.{Cut, Link, link_of, TraceState, Does}
 use Rattle.conn_trace.specs.Places.{finish}
-use Rattle.conn_trace.specs.Trace.{next_item, GivesNoMore}
-use Rattle.conn_trace.proofs.Cutting.{rest_is_cut_also}
+use Rattle.conn_trace.specs.Trace.{next_item}
 use Rattle.conn_trace.proofs.Furthering.{cut_ends}
 use Rattle.conn_trace.proofs.Given.{only_cut_is}
 
@@ -24,10 +23,8 @@ finish_is g reason h k l host link =
     ap (λ x. Does (Finished reason) (put (closed g x l.host) (record l { finished = true }))) link
     ∙ ap (λ x. Does (Finished reason) (put (closed g k x) (record l { finished = true }))) host
 
--- At a rest of one that hasn't finished, where its trace isn't over, a cut on these counts ends it.
-pub rest_cut : (g : Setup) (l : TraceState) (reason : CutReason) (took : TakenCounts) → ends_rests g.http reason ≡ true → l.answers.cut ≡ None → l.finished ≡ false
-    → GivesNoMore false l.sent took (next_item g l) → (next_item g l ≡ Over → ⊥) → next_item g (longer (choosing [] (Some (cut_by reason took))) l) ≡ finish g (CutBy reason) l
-rest_cut g l reason took ends none going rest not_over =
+-- One that hasn't finished is ended by a cut that is taken.
+pub rest_cut : (g : Setup) (l : TraceState) (reason : CutReason) (took : TakenCounts) → takes_cut g (cut_by reason took) l.sent (next_item g l) ≡ true → l.answers.cut ≡ None → l.finished ≡ false → next_item g (longer (choosing [] (Some (cut_by reason took))) l) ≡ finish g (CutBy reason) l
+rest_cut g l reason took takes none going =
     let c = cut_by reason took in
-    let takes : takes_cut g c l.sent (next_item g l) ≡ true = ⊎_elim (λ t. t) (λ o. absurd (not_over o)) (rest_is_cut_also g c l.sent (next_item g l) ends rest) in
     ap (next_item g) (only_cut_is c l none) ∙ cut_ends g l c none going takes

@@ -60,7 +60,7 @@ one_first up side relays (Sent to_side bytes ∷ (f ∷ es)) is to k = absurd k
 
 -- what the rules are told stays
 told_on : (g : Setup) (k : Link) (e : EventName) (s t : RuleHost) → KeepsCollects e s.net t.net → is_some t.http ≡ is_some s.http → Told g k s → Told g k t
-told_on g k e s t is http told = record { from = is.from ∙ told.from; relays = λ r. told.relays (sym is.relays ∙ r); spoken = http ∙ told.spoken; alone = told.alone }
+told_on g k e s t is http told = record { from = is.from ∙ told.from; relays = λ r. told.relays (sym is.relays ∙ r); spoken = http ∙ told.spoken }
 
 effects_of : (es : List Effect) → effects_in (map Did es) ≡ es
 effects_of [] = refl

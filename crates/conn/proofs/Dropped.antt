@@ -1,5 +1,5 @@
 -- What is left of a body is dropped: the next items of each state that the connection may stand for.
-use Rattle.std.proofs.Common.{◌≡◌, refl, sym, ap, subst, ◌∙◌, ℕ, ◌≤◌, List, [], ◌∷◌, ◌++◌, append-nil, drop, length, Result, Ok, Err, IfOk, Bool, true, false, not, None, if◌then◌else◌}
+use Rattle.std.proofs.Common.{◌≡◌, refl, sym, ap, subst, ◌∙◌, ℕ, ◌≤◌, List, [], ◌∷◌, ◌++◌, append-nil, drop, length, Result, Ok, Err, IfOk, Bool, true, false, None}
 use Rattle.std.specs.Option.{is_some}
 use Rattle.core_events.specs.declared.note.Note.{Note}
 use Rattle.px_bytes.specs.declared.addr.Side.TheVariants.{Client, Server}
@@ -9,15 +9,11 @@ use Rattle.http_frames.specs.declared.unit.Unit.TheVariants.{Finished}
 use Rattle.http_frames.proofs.PartsStay.{parts_are_there}
 use Rattle.http_frames.specs.declared.unit.Unit.{Unit as BodyUnit}
 use Rattle.http_frames.specs.declared.state.BodyState.{BodyState}
-use Rattle.irule_http.specs.Sent.{client_closes}
 use Rattle.conn_trace.specs.Gates.{Counts, Met, TakenCounts, to_take}
-use Rattle.conn_trace.specs.Host.{HostState, http_of}
 use Rattle.conn_trace.specs.Item.{Read, calls_in, choices_in, client_output, server_output}
 use Rattle.conn_trace.specs.Messages.{dropping_next}
 use Rattle.conn_trace.specs.Routing.{next_request}
 use Rattle.conn_trace.specs.Setup.{Setup}
-use Rattle.conn_trace.specs.State as state
-use Rattle.conn_trace.specs.Item.{Closed}
 use Rattle.conn_trace.specs.State.{TraceState, ForBytes, Waits, read, read_side}
 use Rattle.conn_trace.specs.Trace.{GivesNoMore, Unfolds, counted, next_item, phase_next}
 use Rattle.conn_trace.specs.Units.{dropping}
@@ -29,19 +25,19 @@ use Rattle.conn.specs.Holds.{Around, Between, Holds, HoldsEnds, Stands}
 use Rattle.conn.specs.Hosts.{seen_host}
 use Rattle.conn.specs.Relaying.{read_ends}
 use Rattle.conn.specs.Setups.{Serves}
-use Rattle.conn.specs.Stages.{InEvent as HostIn, fits, has_finished, http_in, is_asking, is_in_body, next_by, next_stage}
+use Rattle.conn.specs.Stages.{InEvent as HostIn, fits, has_finished, http_in, is_asking, is_in_body, next_stage}
 use Rattle.conn.specs.declared.connection.Conn.{Conn}
 use Rattle.conn.specs.declared.ends.Ends.{Ends}
 use Rattle.conn.specs.declared.ends.Link.TheVariants as link
-use Rattle.conn.specs.declared.events.At.{At}
 use Rattle.conn.specs.declared.setup.Setup as code_setup
-use Rattle.conn.specs.declared.stage.Stage.{Stage}
 use Rattle.conn.specs.declared.stage.Stage.TheVariants as stage
 use Rattle.conn.specs.declared.turn.Act as step_act
 use Rattle.conn.specs.declared.turn.Act.TheVariants as done
-use Rattle.conn.proofs.Acting.{ActGave, rest_group, rest_noted, rests_gave}
+use Rattle.conn.proofs.Acting.{ActGave, rest_group, rest_noted, rests_gave, plain_rest}
+use Rattle.conn.specs.Ends.{is_settled}
+use Rattle.conn.proofs.Going.{next_calm, next_stands}
 use Rattle.conn.proofs.Giving.{Gave, gave_more, gave_one, quiet_queue}
-use Rattle.conn.specs.Servers.{ServerQueue, gives_up, queue_along, queue_at_server, run_notes}
+use Rattle.conn.specs.Servers.{ServerQueue, queue_along, queue_at_server, run_notes}
 use Rattle.conn.proofs.Joining.{TakesNone, TakesNoCut, none_needed}
 use Rattle.conn.proofs.Places.{told_kept}
 use Rattle.conn.proofs.Refusing.{refused_group, refused_noted, refuses}
@@ -59,10 +55,6 @@ reads_none (n ∷ ns) = reads_none ns
 reads_along : (ns : List ℕ) (q : ServerQueue) → queue_along (reads ns) q ≡ q
 reads_along [] q = refl
 reads_along (n ∷ ns) q = ap (queue_along (reads ns)) (quiet_queue q) ∙ reads_along ns q
-
-reads_kept : (ns : List ℕ) → gives_up (reads ns) ≡ false
-reads_kept [] = refl
-reads_kept (n ∷ ns) = reads_kept ns
 
 reads_noted : (c : ℕ) (sent : Counts) (took : TakenCounts) (ns : List ℕ) → run_notes c sent took (reads ns) ≡ []
 reads_noted c sent took [] = refl
@@ -95,7 +87,6 @@ gave_reads g a l at c old mid ns none u holds client servers edges stays =
       client_queue = client ∙ sym (ap (λ x. old.ends.client.queued ++ x) (reads_client ns) ∙ append-nil old.ends.client.queued);
       servers = servers ∙ sym (reads_along ns (queue_at_server old.ends));
       edges = edges;
-      kept = reads_kept ns;
       to_none = reads_none ns;
       noted = sym (reads_noted c l.sent a.took ns);
       calls = reads_calls ns;
@@ -121,21 +112,6 @@ client_read a l at n e h client server connects sent = record {
   connecting = h.connecting;
 }
 
--- behind a request that was answered
-next_stands : (g : Setup) (at : TraceState) (new : Conn) (closes : Bool) (h : HostState) → client_closes (http_of h) ≡ closes → at.phase ≡ next_request h → Between at new → Stands g (next_by closes) at new
-next_stands g at new true h is p b = (p ∙ ap (λ x. if not x then state.AtHead else state.Finishing Closed) is, b)
-next_stands g at new false h is p b = (p ∙ ap (λ x. if not x then state.AtHead else state.Finishing Closed) is, b)
-
-record Calm (st : Stage) : Type 0 where
-  finished : has_finished st ≡ false
-  fit : fits st link.Absent ≡ true
-  awake : is_asking st ≡ false
-  event : (e : At) → HostIn st e
-
-next_calm : (closes : Bool) → Calm (next_by closes)
-next_calm true = record { finished = refl; fit = refl; awake = refl; event = λ e. tt }
-next_calm false = record { finished = refl; fit = refl; awake = refl; event = λ e. tt }
-
 -- the notes there
 abbrev pub front_group : ℕ → Conn → Part → List Note
 front_group c mid (End n) = []
@@ -159,8 +135,8 @@ module _ (s : code_setup.Setup) (g : Setup) (serves : Serves s g) (a : Around) (
   going : l.finished ≡ false
   going = h.finished ∙ ap has_finished is
 
-  absent : mid.ends.link ≡ link.Absent
-  absent = h.told.alone (sym h.told.spoken ∙ spoken)
+  fit : is_settled mid.ends.link ≡ true
+  fit = sym (ap (λ x. fits x mid.ends.link) is) ∙ h.fits
 
   abbrev front : Part
   front = part_of reader mid.ends.client.unread mid.ends.client.ended
@@ -171,17 +147,16 @@ module _ (s : code_setup.Setup) (g : Setup) (serves : Serves s g) (a : Around) (
   behind_end : (n : ℕ) → front ≡ End n → ReadsTo n (next_stage (http_in mid.host)) mid new → ActGave g a l c mid new [] done.Goes
   behind_end n there k =
       let at : TraceState = record (read_side Client n l) { phase = next_request l.host } in
-      let closes = client_closes (http_in mid.host) in
-      let calm = next_calm closes in
+      let calm = next_calm mid.ends.link (http_in mid.host) fit in
       let phase : at.phase ≡ next_request (seen_host mid.host) = ap next_request b.host in
       let here : Between at new = record { vars = b.vars ∙ sym k.vars; host = b.host ∙ ap seen_host (sym k.host); replies = b.replies } in
       record {
         at = at;
-        gave = gave_one g a l at c mid new (Read Client n) h.no_cut (record { calls = refl; client = refl; kept = refl; to_none = refl; opens = λ c s t. refl; takes = (refl, λ t. refl) }) (step ∙ ap (λ p. counted l.sent (dropping_next g l reader p)) there) refl
+        gave = gave_one g a l at c mid new (Read Client n) h.no_cut (record { calls = refl; client = refl; to_none = refl; opens = λ c s t. refl; takes = (refl, λ t. refl) }) (step ∙ ap (λ p. counted l.sent (dropping_next g l reader p)) there) refl
             (record {
-              stage = subst (λ x. Stands g x at new) (sym k.there) (next_stands g at new closes (seen_host mid.host) refl phase here);
+              stage = subst (λ x. Stands g x at new) (sym k.there) (next_stands g at new here (seen_host mid.host) phase);
               finished = going ∙ sym (ap has_finished k.there ∙ calm.finished);
-              fits = ap (λ x. fits x new.ends.link) k.there ∙ ap (λ e. fits (next_by closes) e.link) k.ends ∙ ap (fits (next_by closes)) absent ∙ calm.fit;
+              fits = ap (λ x. fits x new.ends.link) k.there ∙ ap (λ e. fits (next_stage (http_in mid.host)) e.link) k.ends ∙ calm.fit;
               event = subst (λ x. HostIn x new.host.event) (sym k.there) (calm.event new.host.event);
               told = told_kept g mid new k.host (ap (λ e. e.link) k.ends) h.told;
               ends = subst (λ e. HoldsEnds a at e) (sym k.ends) (client_read a l at n mid.ends h.ends refl refl refl refl);
@@ -202,7 +177,7 @@ module _ (s : code_setup.Setup) (g : Setup) (serves : Serves s g) (a : Around) (
       by_part (Bad f) there k = refuses s g serves a l c mid new h b spoken going f (step ∙ ap (λ p. counted l.sent (dropping_next g l reader p)) there) before after did k
       by_part Pending there k =
           let waits : next_item g l ≡ Waits (ForBytes Client) = step ∙ ap (λ p. counted l.sent (dropping_next g l reader p)) there in
-          rests_gave s g serves a l c mid new h b before after did (ap is_in_body is) (subst (λ o. GivesNoMore false l.sent a.took o) (sym waits) refl) (λ o. let e = sym waits ∙ o in cc) k
+          rests_gave s g serves a l c mid new h b before after did (ap is_in_body is) (subst (λ o. GivesNoMore false l.sent a.took o) (sym waits) refl) (ap plain_rest waits) k
 
 -- what stands in front of what is left
 abbrev pub left_front : (reader : BodyState) (s : code_setup.Setup) (c : ℕ) (old new : Conn) (before after : List Note) (did : step_act.Act) → DropsBody reader s c old new before after did → Part
@@ -223,7 +198,7 @@ module _ (s : code_setup.Setup) (g : Setup) (serves : Serves s g) (a : Around) (
         finished = h.finished ∙ ap has_finished is;
         fits = sym (ap (λ x. fits x old.ends.link) is) ∙ h.fits;
         event = tt;
-        told = record { from = h.told.from; relays = h.told.relays; spoken = h.told.spoken; alone = h.told.alone };
+        told = record { from = h.told.from; relays = h.told.relays; spoken = h.told.spoken };
         ends = client_read a l at k.size old.ends h.ends refl refl refl refl;
         no_choice = h.no_choice;
         no_cut = h.no_cut;

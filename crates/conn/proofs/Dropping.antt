@@ -81,7 +81,7 @@ in_piece left [] false n is = absurd (cc)
 in_piece left (b ∷ held) ended n is = let same : n ≡ min left (length (b ∷ held)) = cc in omega (arith, same)
 
 -- a piece is of the body, or of the chunk that stands open
-piece_holds : (s : BodyState) (held : List ℕ) (ended : Bool) (n : ℕ) → IsUnit s held ended (Piece n) → Holds n s
+pub piece_holds : (s : BodyState) (held : List ℕ) (ended : Bool) (n : ℕ) → IsUnit s held ended (Piece n) → Holds n s
 piece_holds (body.Left zero) held ended n is = absurd (cc)
 piece_holds (body.Left (suc k)) held ended n is = in_piece (suc k) held ended n is
 piece_holds body.FirstLine held ended n is = absurd (true≢false (first_other held ended (Piece n) is))
@@ -118,7 +118,7 @@ chunk_after_bytes (suc n) (suc (suc k)) some within =
     ap (λ j. after_bytes n (in_chunk j)) less ∙ chunk_after_bytes n (suc k) (omega arith) (omega (arith, within)) ∙ ap chunk_left rest
 
 -- its reader goes on as one byte after another
-piece_after : (n : ℕ) (s : BodyState) → 0 < n → Holds n s → after_bytes n s ≡ after_unit s (Piece n)
+pub piece_after : (n : ℕ) (s : BodyState) → 0 < n → Holds n s → after_bytes n s ≡ after_unit s (Piece n)
 piece_after n (body.Left k) some holds = left_after n k
 piece_after n body.FirstLine some holds = absurd (omega (arith, some, holds))
 piece_after n (body.Chunk k) some holds = chunk_after_bytes n k (omega (arith, some, holds)) holds

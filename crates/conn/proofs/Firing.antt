@@ -13,8 +13,8 @@ use Rattle.conn_trace.specs.Trace.{counted, fired_next, next_item}
 use Rattle.core_events.specs.declared.note.Note.{Note}
 use Rattle.core_events.specs.declared.note.Note.TheVariants as note
 use Rattle.conn.specs.Changes.{Enters}
-use Rattle.conn.specs.Ends.{connects_by, has_stream, is_up, link_by, server_by, is_taken}
-use Rattle.conn.specs.Events.{event_of, is_closed}
+use Rattle.conn.specs.Ends.{connects_by, has_stream, is_up, link_by, server_by}
+use Rattle.conn.specs.Events.{event_of, is_closing}
 use Rattle.conn.specs.Holds.{Around, Between, Holds, HoldsEnds}
 use Rattle.conn.specs.Hosts.{fired_host, seen_host}
 use Rattle.conn.specs.Relaying.{Fires as FiresBytes, read_end, read_ends}
@@ -89,7 +89,7 @@ server_read a l n e h up = record {
 
 module _ (s : code_setup.Setup) (g : Setup) (serves : Serves s g) (a : Around) (l : TraceState) (c : ℕ) (old new : Conn) (h : Holds g a l old) (b : Between l old) (going : l.finished ≡ false) where
   -- its event is entered
-  fired_gave : (e : At) (side : Side) (n : ℕ) (host : RuleHost) (ends : Ends) (l' : TraceState) → Enters s e host ends old new → SameAnswers l l' → Known g ends.link host → at_fits e ends.link ≡ true → is_closed e ≡ false → (e ≡ event.ServerClosed → ⊥) → HoldsEnds a l' ends → SameQueues old.ends ends
+  fired_gave : (e : At) (side : Side) (n : ℕ) (host : RuleHost) (ends : Ends) (l' : TraceState) → Enters s e host ends old new → SameAnswers l l' → Known g host → at_fits e ends.link ≡ true → is_closing e ≡ false → (e ≡ event.ServerClosed → ⊥) → HoldsEnds a l' ends → SameQueues old.ends ends
       → next_item g (longer (choosing (Fires side ∷ []) None) l) ≡ Does (Fired side n) (put (enter g (event_of e) (link_by ends.link) (seen_host host)) l') → ActGave g a l c old new (note.Fired c side ∷ []) done.Goes
   fired_gave e side n host ends l' k same known fit open_yet plain holds queues step =
       let p = enter g (event_of e) (link_by ends.link) (seen_host host) in
@@ -101,7 +101,6 @@ module _ (s : code_setup.Setup) (g : Setup) (serves : Serves s g) (a : Around) (
           passes = record { passed = (put p l', step, refl); met = (refl, tt); cut = λ reason e. absurd (cc) };
           holds = gone_holds g a false p l' ends new gone (same.finished ∙ going) (ends_kept a l' (put p l') ends ends holds refl refl refl refl refl) same.choices (same.cut ∙ h.no_cut);
           client_queue = ap (λ x. x.client.queued) gone.ends ∙ queues.client ∙ sym (append-nil old.ends.client.queued);
-          kept = refl;
           to_none = refl;
           servers = ap queue_at_server gone.ends ∙ queues.server ∙ sym (quiet_queue (queue_at_server old.ends));
           edges = ap (λ x. x.edges) gone.ends ∙ queues.edges;
@@ -146,11 +145,11 @@ module _ (s : code_setup.Setup) (g : Setup) (serves : Serves s g) (a : Around) (
   pub fires_client : (n : ℕ) (before after : List Note) → at_fits event.ClientData old.ends.link ≡ true → next_item g (chosen Client) ≡ counted l.sent (fired_next g (chosen Client) Client n []) → FiresBytes s c Client n old new before after → ActGave g a l c old new (note.Fired c Client ∷ []) done.Goes
   fires_client n before after fit step k =
       fired_gave event.ClientData Client n (fired_host Client (take n old.ends.client.unread) old.host) (read_ends Client n old.ends) (fired_client n l) k.enters
-      (record { vars = refl; finished = refl; replies = refl; cut = refl; choices = refl }) (record { from = h.told.from; spoken = h.told.spoken; alone = h.told.alone }) fit refl (λ x. cc) (client_read a l n old.ends h.ends) (record { client = refl; server = refl; edges = refl })
+      (record { vars = refl; finished = refl; replies = refl; cut = refl; choices = refl }) (record { from = h.told.from; spoken = h.told.spoken }) fit refl (λ x. cc) (client_read a l n old.ends h.ends) (record { client = refl; server = refl; edges = refl })
       (ap (next_item g) (on_choice Client) ∙ step ∙ client_item n)
 
   pub fires_server : (n : ℕ) (before after : List Note) → old.ends.link ≡ link.Up → next_item g (chosen Server) ≡ counted l.sent (fired_next g (chosen Server) Server n []) → FiresBytes s c Server n old new before after → ActGave g a l c old new (note.Fired c Server ∷ []) done.Goes
   fires_server n before after up step k =
       fired_gave event.ServerData Server n (fired_host Server (take n old.ends.server.unread) old.host) (read_ends Server n old.ends) (fired_server n l) k.enters
-      (record { vars = refl; finished = refl; replies = refl; cut = refl; choices = refl }) (record { from = h.told.from; spoken = h.told.spoken; alone = h.told.alone }) (ap is_up up) refl (λ x. cc) (server_read a l n old.ends h.ends up) (record { client = refl; server = refl; edges = refl })
+      (record { vars = refl; finished = refl; replies = refl; cut = refl; choices = refl }) (record { from = h.told.from; spoken = h.told.spoken }) (ap is_up up) refl (λ x. cc) (server_read a l n old.ends h.ends up) (record { client = refl; server = refl; edges = refl })
       (ap (next_item g) (on_choice Server) ∙ step ∙ server_item n up)

@@ -13,7 +13,6 @@ use Rattle.conn_trace.specs.Setup.{Handler, Setup}
 use Rattle.conn_trace.specs.State.{Draining, Failing, Finishing, Gated, InEvent, Phase, Running, TraceState, Does, Over, link_of}
 use Rattle.conn_trace.specs.Trace.{GivesNoMore, next_item}
 use Rattle.core_events.specs.declared.note.CutReason.{CutReason}
-use Rattle.core_events.specs.declared.note.CutReason.TheVariants.{ClientReset, ServerReset}
 use Rattle.core_events.specs.declared.note.Note.{Note}
 use Rattle.core_events.specs.declared.note.Note.TheVariants as note
 use Rattle.conn.specs.Acts.{BehindFault, Connects, ConnectsNext, Finishes, PassesGate, PassesReleased, Rests, cut_of, has_room}
@@ -22,9 +21,9 @@ use Rattle.conn.specs.Relaying.{Releases}
 use Rattle.conn.specs.Changes.{GoesTo, NextBody, StartsBody}
 use Rattle.conn.specs.Ends.{link_by}
 use Rattle.conn.specs.Events.{event_of, is_closed}
+use Rattle.conn.specs.Events.{is_closing as closes_at}
 use Rattle.conn.specs.Holds.{Around, Between, GatedBefore, Holds, Stands}
 use Rattle.conn.specs.Hosts.{seen_host}
-use Rattle.conn.specs.RunsItems.{licenses}
 use Rattle.conn.specs.Setups.{Serves}
 use Rattle.conn.specs.Stages.{InEvent as HostIn, at_fits, cause_for, fits, has_finished, is_asking, is_in_body, reason_for}
 use Rattle.conn.specs.declared.connection.Conn.{Conn}
@@ -38,19 +37,22 @@ use Rattle.conn.specs.declared.stage.Finish.TheVariants as finish
 use Rattle.conn.specs.declared.stage.Stage.TheVariants as stage
 use Rattle.conn.specs.declared.turn.Act as step_act
 use Rattle.conn.specs.declared.turn.Act.TheVariants as done
-use Rattle.conn.proofs.Acting.{ActGave, IsPlain, finishes_gave, gone_holds, rest_group, rest_noted, rests_gave, stays}
+use Rattle.conn.proofs.Acting.{ActGave, IsPlain, finished_uncut, finishes_gave, gone_holds, rest_group, rest_noted, rests_gave, stays, plain_rest}
+use Rattle.conn.proofs.Fitting.{still_open}
 use Rattle.conn.proofs.Giving.{ends_kept, gave_one, same_queue}
 use Rattle.conn.proofs.Pending.{gate_is}
 use Rattle.conn.proofs.Places.{From, GoneTo, link_is, next_gone, same_told, starts_gone}
 use Rattle.conn.proofs.SelectItems.{StandsIn, next_in}
 
-closing_is : (at : At) → is_closing (event_of at) ≡ is_closed at
+closing_is : (at : At) → is_closing (event_of at) ≡ closes_at at
 closing_is event.Accepted = refl
 closing_is event.ClientData = refl
 closing_is event.Selected = refl
 closing_is event.Failed = refl
 closing_is event.Connected = refl
 closing_is event.Request = refl
+closing_is event.Response = refl
+closing_is event.Leaving = refl
 closing_is event.ServerData = refl
 closing_is event.ServerClosed = refl
 closing_is event.Closed = refl
@@ -110,7 +112,7 @@ module _ (s : code_setup.Setup) (g : Setup) (serves : Serves s g) (a : Around) (
       next_in g (InEvent (event_of at) (Gated x xs)) (seen_host old.host) (link_by old.ends.link) l (stands_in _ k b) ∙ ap (λ hs. Does (Opened BeforeBodies) (put (place (InEvent (event_of at) (Running x xs 0)) hs) l)) b.host in
       record {
         at = put p l;
-        gave = gave_one g a l (put p l) c old new (Opened BeforeBodies) h.no_cut (record { calls = refl; client = refl; kept = refl; to_none = refl; opens = λ c s t. refl; takes = (refl, λ t. refl) }) step (gate_is a l old.ends h.ends ∙ room)
+        gave = gave_one g a l (put p l) c old new (Opened BeforeBodies) h.no_cut (record { calls = refl; client = refl; to_none = refl; opens = λ c s t. refl; takes = (refl, λ t. refl) }) step (gate_is a l old.ends h.ends ∙ room)
             (gone_holds g a false p l old.ends new gone going (ends_kept a l (put p l) old.ends old.ends h.ends refl refl refl refl refl) h.no_choice h.no_cut)
             (ap (λ e. e.client.queued) gone.ends) (same_queue gone.ends) (ap (λ e. e.edges) gone.ends) (λ f. f);
         stops = gone.awake;
@@ -119,14 +121,14 @@ module _ (s : code_setup.Setup) (g : Setup) (serves : Serves s g) (a : Around) (
   pub gate : (at : At) (before after : List Note) (did : step_act.Act) → old.stage ≡ stage.Gated at → Stands g (stage.Gated at) l old → PassesGate s c at old new before after did → ActGave g a l c old new (gate_group (has_room old) c (cut_of old)) did
   gate at before after did is st k = by_bodies (g.handlers (event_of at)) refl st.0
     where
-      fit : (not (is_closed at) ≡ true) × (at_fits at old.ends.link ≡ true)
-      fit = and_parts (not (is_closed at)) (at_fits at old.ends.link) (sym (ap (λ x. fits x old.ends.link) is) ∙ h.fits)
+      fit : (not (closes_at at) ≡ true) × (at_fits at old.ends.link ≡ true)
+      fit = and_parts (not (closes_at at)) (at_fits at old.ends.link) (sym (ap (λ x. fits x old.ends.link) is) ∙ h.fits)
 
       ev : event_of old.host.event ≡ event_of at
       ev = subst (λ x. HostIn x old.host.event) is h.event
 
       open_yet : is_closed at ≡ false
-      open_yet = not-true (is_closed at) fit.0
+      open_yet = still_open at (not-true (closes_at at) fit.0)
 
       going : l.finished ≡ false
       going = h.finished ∙ ap has_finished is
@@ -137,7 +139,7 @@ module _ (s : code_setup.Setup) (g : Setup) (serves : Serves s g) (a : Around) (
       by_test x xs e p false room k =
           let step = next_in g (InEvent (event_of at) (Gated x xs)) (seen_host old.host) (link_by old.ends.link) l (stands_in _ p st.1) in
           let shut : GivesNoMore false l.sent a.took (next_item g l) = subst (λ o. GivesNoMore false l.sent a.took o) (sym step) (gate_is a l old.ends h.ends ∙ room) in
-          rests_gave s g serves a l c old new h st.1 before after did (ap is_in_body is) shut (λ o. let e = sym step ∙ o in cc) k
+          rests_gave s g serves a l c old new h st.1 before after did (ap is_in_body is) shut (ap plain_rest step) k
 
       by_bodies : (hs : List Handler) → g.handlers (event_of at) ≡ hs → GatedBefore (event_of at) hs l.phase → ActGave g a l c old new (gate_group (has_room old) c (cut_of old)) did
       by_bodies [] e p = absurd p
@@ -145,7 +147,7 @@ module _ (s : code_setup.Setup) (g : Setup) (serves : Serves s g) (a : Around) (
 
   -- the line of a fault is logged
   pub logs : (at : At) (n : ℕ) (kind : FaultKind) (line : List ℕ) → old.stage ≡ stage.Failing at n kind line → Stands g (stage.Failing at n kind line) l old → BehindFault s at n kind old new → ActGave g a l c old new (note.Log c line ∷ []) done.Goes
-  logs at n kind line is st k = by_test (is_closed at) refl k
+  logs at n kind line is st k = by_test (closes_at at) refl k
     where
       bs : List Handler
       bs = drop n (g.handlers (event_of at))
@@ -165,13 +167,13 @@ module _ (s : code_setup.Setup) (g : Setup) (serves : Serves s g) (a : Around) (
       gives : (p : Place) → GoneTo g l.finished p l old.ends new → after_fault g (event_of at) l.finished (link_by old.ends.link) kind bs (seen_host old.host) ≡ p → ActGave g a l c old new (note.Log c line ∷ []) done.Goes
       gives p gone there = record {
         at = put p l;
-        gave = gave_one g a l (put p l) c old new (Logged line) h.no_cut (record { calls = refl; client = refl; kept = refl; to_none = refl; opens = λ c s t. refl; takes = (refl, λ t. refl) }) (step ∙ ap (λ x. Does (Logged line) (put x l)) there) refl
+        gave = gave_one g a l (put p l) c old new (Logged line) h.no_cut (record { calls = refl; client = refl; to_none = refl; opens = λ c s t. refl; takes = (refl, λ t. refl) }) (step ∙ ap (λ x. Does (Logged line) (put x l)) there) refl
             (gone_holds g a l.finished p l old.ends new gone refl (ends_kept a l (put p l) old.ends old.ends h.ends refl refl refl refl refl) h.no_choice h.no_cut)
             (ap (λ e. e.client.queued) gone.ends) (same_queue gone.ends) (ap (λ e. e.edges) gone.ends) (λ f. f);
         stops = gone.awake;
       }
 
-      by_test : (b : Bool) → is_closed at ≡ b → MatchBool b (NextBody s at n old new) (GoesTo (stage.Finishing (finish.Fault kind)) old new) → ActGave g a l c old new (note.Log c line ∷ []) done.Goes
+      by_test : (b : Bool) → closes_at at ≡ b → MatchBool b (NextBody s at n old new) (GoesTo (stage.Finishing (finish.Fault kind)) old new) → ActGave g a l c old new (note.Log c line ∷ []) done.Goes
       by_test true e k =
           gives (next_body g (event_of at) l.finished (link_by old.ends.link) bs (seen_host old.host)) (next_gone g l s serves at n l.finished old new k (from_here st.1) (subst (λ x. HostIn x old.host.event) is h.event) fit fin)
           (ap (λ b. if b then next_body g (event_of at) l.finished (link_by old.ends.link) bs (seen_host old.host) else place (Finishing (reason_for (finish.Fault kind))) (seen_host old.host)) (closing_is at ∙ e))
@@ -181,7 +183,7 @@ module _ (s : code_setup.Setup) (g : Setup) (serves : Serves s g) (a : Around) (
           gives p
           (record {
             stands = subst (λ x. Stands g x (put p l) new) (sym k.there) there;
-            finished = fin ∙ e ∙ ap has_finished (sym k.there);
+            finished = fin ∙ still_open at e ∙ ap has_finished (sym k.there);
             fits = ap (λ x. fits x new.ends.link) k.there;
             told = same_told g old new k.host k.ends h.told;
             ends = k.ends;
@@ -200,4 +202,4 @@ module _ (s : code_setup.Setup) (g : Setup) (serves : Serves s g) (a : Around) (
   pub drains : (did : step_act.Act) → old.stage ≡ stage.Draining → Stands g stage.Draining l old → did ≡ done.Rests → new ≡ old → ActGave g a l c old new [] did
   drains did is st rests same =
       let over : next_item g l ≡ Over = next_in g Draining (seen_host old.host) (link_by old.ends.link) l (stands_in _ st.0 st.1) in
-      stays g a l c old new did h (ap is_in_body is) rests same (subst (λ o. GivesNoMore false l.sent a.took o) (sym over) tt) (ap (λ b. if b then false else (if licenses ClientReset l a.took then true else licenses ServerReset l a.took)) (h.finished ∙ ap has_finished is))
+      stays g a l c old new did h (ap is_in_body is) rests same (subst (λ o. GivesNoMore false l.sent a.took o) (sym over) tt) (finished_uncut g a.took l (h.finished ∙ ap has_finished is))

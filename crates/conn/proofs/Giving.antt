@@ -1,5 +1,5 @@
 -- Items that were given, one after another.
-use Rattle.std.proofs.Common.{◌≡◌, refl, sym, ap, subst, ◌∙◌, ℕ, List, [], ◌∷◌, ◌++◌, Bool, true, false, append-nil, append_assoc, None, ◌||◌}
+use Rattle.std.proofs.Common.{◌≡◌, refl, sym, ap, subst, ◌∙◌, ℕ, List, [], ◌∷◌, ◌++◌, Bool, true, false, append-nil, append_assoc, None}
 use Rattle.std.proofs.lemmas.Grind.{flat_map-append}
 use Rattle.core_events.specs.Edges.{edges_by, edges_noted}
 use Rattle.core_events.specs.declared.edges.Edges.{Edges}
@@ -17,10 +17,10 @@ use Rattle.conn_trace.proofs.Unfolding.{unfolds_one}
 use Rattle.conn.specs.Ends.{sent_here}
 use Rattle.conn.specs.Holds.{Around, Holds, HoldsEnds}
 use Rattle.conn.specs.RunsItems.{Passes}
-use Rattle.conn.specs.Servers.{ServerQueue, closed_behind, queue_along, queue_at_server, queue_behind, run_notes, gives_up}
+use Rattle.conn.specs.Servers.{ServerQueue, closed_behind, queue_along, queue_at_server, queue_behind, run_notes}
 use Rattle.conn.specs.declared.connection.Conn.{Conn}
 use Rattle.conn.specs.declared.ends.Ends.{Ends}
-use Rattle.conn.proofs.Servers.{queue_joins, run_joins, gives_up_on}
+use Rattle.conn.proofs.Servers.{queue_joins, run_joins}
 use Rattle.conn.proofs.Joining.{TakesNoCut, TakesNone, no_cut_on, none_on, passes_join, passes_none, passes_one}
 
 -- The connection went on by these items, with these notes and calls. Where it had finished they took no choice
@@ -32,7 +32,6 @@ pub record Gave (g : Setup) (a : Around) (l at : TraceState) (c : ℕ) (old new 
   pub client_queue : new.ends.client.queued ≡ old.ends.client.queued ++ client_output more
   pub servers : queue_at_server new.ends ≡ queue_along more (queue_at_server old.ends)
   pub edges : new.ends.edges ≡ edges_noted group old.ends.edges
-  pub kept : gives_up more ≡ false
   pub to_none : server_output 0 more ≡ []
   pub noted : group ≡ run_notes c l.sent a.took more
   pub calls : calls_in more ≡ called
@@ -47,7 +46,6 @@ gave_none g a l c old h = record {
   holds = h;
   client_queue = sym (append-nil old.ends.client.queued);
   servers = refl;
-  kept = refl;
   to_none = refl;
   edges = refl;
   noted = refl;
@@ -75,7 +73,6 @@ gave_more g a l m at c old mid new first second none p q = record {
       ∙ ap (λ x. old.ends.client.queued ++ x) (sym (flat_map-append to_client p.more q.more));
   servers = q.servers ∙ ap (queue_along q.more) p.servers ∙ sym (queue_joins p.more q.more (queue_at_server old.ends));
   edges = q.edges ∙ ap (edges_noted second) p.edges ∙ sym (edges_on first second old.ends.edges);
-  kept = gives_up_on p.more q.more ∙ ap (λ b. b || gives_up q.more) p.kept ∙ q.kept;
   to_none = flat_map-append (to_server 0) p.more q.more ∙ ap (λ x. x ++ server_output 0 q.more) p.to_none ∙ q.to_none;
   noted = ap (λ x. x ++ second) p.noted ∙ ap (λ x. run_notes c l.sent a.took p.more ++ x) (q.noted ∙ ap (λ s. run_notes c s a.took q.more) (sent_counted g (longer (taken_by_items a.took p.more) l) m p.more p.passes.passed))
       ∙ sym (run_joins c l.sent a.took p.more q.more);
@@ -89,7 +86,6 @@ gave_more g a l m at c old mid new first second none p q = record {
 pub record Plain (i : Item) (called : List (List (List ℕ))) : Type 0 where
   pub calls : calls_in (i ∷ []) ≡ called
   pub client : to_client i ≡ []
-  pub kept : gives_up (i ∷ []) ≡ false
   pub to_none : server_output 0 (i ∷ []) ≡ []
   pub opens : (c : ℕ) (sent : Counts) (took : TakenCounts) → closed_behind c sent took i ≡ []
   pub takes : TakesNone (i ∷ [])
@@ -110,7 +106,6 @@ gave_one g a l at c old new i none plain step may holds client server edges stay
   holds = holds;
   client_queue = client ∙ sym (ap (λ x. old.ends.client.queued ++ x) (ap (λ x. x ++ []) plain.client) ∙ append-nil old.ends.client.queued);
   servers = server;
-  kept = plain.kept;
   to_none = plain.to_none;
   edges = edges;
   noted = sym (append-nil (note_of c i)) ∙ ap (λ x. note_of c i ++ (x ++ [])) (sym (plain.opens c (sent_after i l.sent) a.took));

@@ -1,6 +1,6 @@
--- Where an action outside of bodies leads: a body has just begun there, or none runs; and no more than eight
+-- Where an action outside of bodies leads: a body has just begun there, or none runs; and no more than fourteen
 -- such actions are made one after another without a note.
-use Rattle.std.proofs.Common.{◌≡◌, ◌⊎◌, ◌≤◌, inl, inr, refl, sym, ap, subst, ◌∙◌, ℕ, zero, suc, ◌+◌, ◌*◌, List, [], ◌∷◌, ◌++◌, length, length-append, take, drop, nat_lt, Bool, true, false, true≢false, Option, Some, None, Result, Ok, Err, if◌then◌else◌, arith}
+use Rattle.std.proofs.Common.{◌≡◌, ◌⊎◌, ◌≤◌, inl, inr, refl, sym, ap, subst, ◌∙◌, ℕ, zero, suc, ◌+◌, ◌*◌, List, [], ◌∷◌, ◌++◌, length, length-append, append-nil, take, drop, nat_lt, Bool, true, false, true≢false, Option, Some, None, Result, Ok, Err, if◌then◌else◌, arith}
 use Rattle.std.specs.Option.{is_some}
 use Rattle.std.specs.Prelude.{option_map}
 use Rattle.std.specs.Bool.{MatchBool}
@@ -29,17 +29,35 @@ use Rattle.conn_trace.specs.Relay.{meets}
 use Rattle.conn_trace.specs.Setup.{Handler, uncaught_line}
 use Rattle.irule_http.specs.declared.state.Http.{Http}
 use Rattle.irule_net.specs.declared.state.Selected.{Selected}
-use Rattle.conn.specs.Acts.{Acted, ActedAt, AnswersBy, BehindFault, CollectsBy, RelaysBy, Rests, RestsBy, cut_of, has_room, Connects}
+use Rattle.conn.specs.Acted.{Acted, ActedAt}
+use Rattle.conn.specs.Acts.{cut_by, is_server}
+use Rattle.conn.specs.Acts.{AnswersBy, BehindFault, CollectsBy, RelaysBy, Rests, RestsBy, cut_of, has_room, Connects}
 use Rattle.conn.specs.Acts.{DropsBy, HeadBy, RefusesBy, RequestBy, SendsClient, client_room, dropped}
 use Rattle.conn.specs.Bodies.{Fresh}
 use Rattle.conn.specs.Changes.{Closes, ClosesClient, ClosesServer, Enters, GoesTo, Leaves, NextBody, StartsBody, left_stage}
 use Rattle.conn.specs.Choosing.{ChoosesBy, TakesChosen, plan_of}
 use Rattle.conn.specs.Ends.{is_sought, is_up}
-use Rattle.conn.specs.Events.{event_of, is_closed}
+use Rattle.conn.specs.Events.{event_of, is_closing}
 use Rattle.conn.specs.Hosts.{begun_host, requested_host}
 use Rattle.conn.specs.Relaying.{Releases, relay_plan, round_begun}
 use Rattle.conn.specs.Setups.{places_at}
-use Rattle.conn.specs.Stages.{asked_stage, connected_stage, connecting_stage, entered_by, failed_stage, gathering_stage, has_body, http_in, is_running, next_by, next_stage, request_stage}
+use Rattle.conn.specs.Stages.{asked_stage, connected_stage, connecting_stage, entered_by, failed_stage, gathering_stage, has_body, headed_stage, http_in, is_running, leaving_stage, loose_stage, message_stage, next_by, next_stage, request_stage, response_stage, retired_stage, routed_stage, spent_stage, unless_ended}
+use Rattle.conn_trace.specs.Messages.{is_counted, is_interim}
+use Rattle.conn_trace.specs.Routing.{is_left, is_spent_link}
+use Rattle.conn_trace.specs.SentBodies.{last_line}
+use Rattle.irule_http.specs.declared.state.Response.{Response}
+use Rattle.px_bytes.specs.declared.addr.Side.{Side}
+use Rattle.conn.specs.Changes.{LeavesServer}
+use Rattle.conn.specs.Forwarding.{Passage, answer_of, ends_room, part_at, switches}
+use Rattle.conn.specs.Hosts.{responded_host, seen_host}
+use Rattle.conn.specs.Messages.{AnswerBy, Becomes, EndsBy, FrontBy, Retires, StatusBy, head_bytes, is_whole, passed_to, with_ends}
+use Rattle.conn.specs.Relaying.{moved_as}
+use Rattle.conn.specs.Servers.{closed_notes}
+use Rattle.conn.specs.declared.ends.Behind.{Behind}
+use Rattle.conn.specs.declared.ends.Behind.TheVariants as behind
+use Rattle.conn.specs.declared.response.Answer.{Answer}
+use Rattle.conn.specs.declared.response.Answer.TheVariants as answer
+use Rattle.conn.proofs.Going.{asked_no_body, headed_no_body, message_no_body, next_no_body, retired_no_body, reuse_no_body}
 use Rattle.conn.specs.Steps.{GoesOn, ended_of}
 use Rattle.conn.specs.declared.connection.Conn.{Conn}
 use Rattle.conn.specs.declared.ends.Ends.{Ends}
@@ -93,6 +111,8 @@ leaves s event.Selected old new k = goes_to s (left_stage event.Selected old) ol
 leaves s event.Failed old new k = goes_to s (left_stage event.Failed old) old new (after_no_body event.Failed old.ends.link old.host) k
 leaves s event.Connected old new k = goes_to s (left_stage event.Connected old) old new (after_no_body event.Connected old.ends.link old.host) k
 leaves s event.Request old new k = goes_to s (left_stage event.Request old) old new (after_no_body event.Request old.ends.link old.host) k
+leaves s event.Response old new k = goes_to s (left_stage event.Response old) old new (after_no_body event.Response old.ends.link old.host) k
+leaves s event.Leaving old new k = goes_to s (left_stage event.Leaving old) old new (after_no_body event.Leaving old.ends.link old.host) k
 leaves s event.ServerData old new k = goes_to s (left_stage event.ServerData old) old new (after_no_body event.ServerData old.ends.link old.host) k
 leaves s event.ServerClosed old new k = closes_client s old new k
 leaves s event.Closed old new k = goes_to s (left_stage event.Closed old) old new (after_no_body event.Closed old.ends.link old.host) k
@@ -112,7 +132,7 @@ closes s old new k = by_test (is_sought old.ends.link) k
     by_test false c = closes_client s old new c
 
 behind_fault : (s : code.Setup) (at : At) (n : ℕ) (kind : FaultKind) (old new : Conn) → BehindFault s at n kind old new → Starts s new
-behind_fault s at n kind old new k = by_test (is_closed at) k
+behind_fault s at n kind old new k = by_test (is_closing at) k
   where
     by_test : (b : Bool) → MatchBool b (NextBody s at n old new) (GoesTo (stage.Finishing (finish.Fault kind)) old new) → Starts s new
     by_test true c = next s at n old new c
@@ -130,12 +150,21 @@ ended_starts s h at n mid new (Some fault) did k = goes_to s (stage.Failing at (
 -- request at hand LB_FAILED without bodies drops what is left of it; the next request isn't answered yet.
 abbrev pub rank : Stage → (answered : Bool) → ℕ
 rank (stage.Gated at) answered = 1
-rank stage.Choosing answered = if answered then 7 else 2
-rank (stage.Chosen addr) answered = if answered then 7 else 2
-rank (stage.Answering to) answered = if answered then 7 else 2
-rank stage.Continuing answered = if answered then 8 else 3
-rank stage.AtHead answered = 4
-rank (stage.Dropping reader) answered = 5
+rank stage.Choosing answered = if answered then 8 else 2
+rank (stage.Chosen addr) answered = if answered then 8 else 2
+rank (stage.Retiring behind.BeforeSelect) answered = if answered then 9 else 3
+rank (stage.GivingUp behind.BeforeSelect) answered = if answered then 10 else 4
+rank stage.Continuing answered = if answered then 11 else 5
+rank stage.AtHead answered = 6
+rank (stage.Dropping reader) answered = 7
+rank (stage.Retiring behind.BehindMessage) answered = 7
+rank (stage.GivingUp behind.BehindMessage) answered = 8
+rank (stage.Forwarding Server reader standing) answered = 9
+rank (stage.Heading Server) answered = 10
+rank stage.AtResponse answered = 11
+rank (stage.Forwarding Client reader standing) answered = 12
+rank (stage.Heading Client) answered = 13
+rank (stage.Answering to) answered = 14
 rank stage.Releasing answered = 1
 rank other answered = 0
 
@@ -145,24 +174,37 @@ is_answered_in h = is_some (http_in h).answer
 abbrev pub rank_of : Conn → ℕ
 rank_of c = rank c.stage (is_answered_in c.host)
 
-few_by : (b : Bool) (x y : ℕ) → x ≤ 8 → y ≤ 8 → (if b then x else y) ≤ 8
+few_by : (b : Bool) (x y : ℕ) → x ≤ 14 → y ≤ 14 → (if b then x else y) ≤ 14
 few_by true x y p q = p
 few_by false x y p q = q
 
-pub rank_few : (st : Stage) (answered : Bool) → rank st answered ≤ 8
+pub rank_few : (st : Stage) (answered : Bool) → rank st answered ≤ 14
 rank_few (stage.Gated at) answered = omega arith
-rank_few stage.Choosing answered = few_by answered 7 2 (omega arith) (omega arith)
-rank_few (stage.Chosen addr) answered = few_by answered 7 2 (omega arith) (omega arith)
-rank_few (stage.Answering to) answered = few_by answered 7 2 (omega arith) (omega arith)
-rank_few stage.Continuing answered = few_by answered 8 3 (omega arith) (omega arith)
+rank_few stage.Choosing answered = few_by answered 8 2 (omega arith) (omega arith)
+rank_few (stage.Chosen addr) answered = few_by answered 8 2 (omega arith) (omega arith)
+rank_few (stage.Retiring behind.BeforeSelect) answered = few_by answered 9 3 (omega arith) (omega arith)
+rank_few (stage.GivingUp behind.BeforeSelect) answered = few_by answered 10 4 (omega arith) (omega arith)
+rank_few stage.Continuing answered = few_by answered 11 5 (omega arith) (omega arith)
 rank_few stage.AtHead answered = omega arith
 rank_few (stage.Dropping reader) answered = omega arith
+rank_few (stage.Retiring behind.BehindMessage) answered = omega arith
+rank_few (stage.GivingUp behind.BehindMessage) answered = omega arith
+rank_few (stage.Forwarding Server reader standing) answered = omega arith
+rank_few (stage.Heading Server) answered = omega arith
+rank_few stage.AtResponse answered = omega arith
+rank_few (stage.Forwarding Client reader standing) answered = omega arith
+rank_few (stage.Heading Client) answered = omega arith
+rank_few (stage.Answering to) answered = omega arith
 rank_few stage.Releasing answered = omega arith
 rank_few other answered = omega arith
 
 -- where a server is selected or asked for
 abbrev high : Bool → ℕ
-high answered = if answered then 7 else 2
+high answered = if answered then 8 else 2
+
+high_few : (answered : Bool) → high answered ≤ 8
+high_few true = omega arith
+high_few false = omega arith
 
 below_high : (answered : Bool) (n : ℕ) → n ≤ 1 → n + 1 ≤ high answered
 below_high true n low = omega (arith, low)
@@ -176,9 +218,13 @@ connecting_low : (o : Option Selected) (answered : Bool) → rank (connecting_st
 connecting_low None answered = omega arith
 connecting_low (Some s) answered = omega arith
 
-connected_low : (loose : List ℕ) (answered : Bool) → rank (connected_stage loose) answered ≤ 1
-connected_low [] answered = omega arith
-connected_low (b ∷ bs) answered = omega arith
+loose_low : (loose : List ℕ) (answered : Bool) → rank (loose_stage loose) answered ≤ 1
+loose_low [] answered = omega arith
+loose_low (b ∷ bs) answered = omega arith
+
+connected_low : (http : Bool) (loose : List ℕ) (answered : Bool) → rank (connected_stage http loose) answered ≤ 13
+connected_low true loose answered = omega arith
+connected_low false loose answered = let k = loose_low loose answered in omega (arith, k)
 
 low_by : (at : At) (k : Link) (host : RuleHost) (up : Bool) (new : RuleHost) (ps : List Place) → new ≡ begun_host at up host → (let h = begun_host at up host in rank (entered_by at k h ps) (is_answered_in h) + 1 ≤ high (is_answered_in h)) → rank (entered_by at k new ps) (is_answered_in new) + 1 ≤ high (is_answered_in new)
 low_by at k host up new ps is low = subst (λ n. rank (entered_by at k n ps) (is_answered_in n) + 1 ≤ high (is_answered_in n)) (sym is) low
@@ -201,12 +247,10 @@ selected_low = record { low = λ k host up new ps is. low_by event.Selected k ho
     by_places k host up [] = below_high (is_answered_in (begun_host event.Selected up host)) _ (connecting_low host.net.selected (is_answered_in (begun_host event.Selected up host)))
     by_places k host up (p ∷ ps) = below_high (is_answered_in (begun_host event.Selected up host)) 1 (omega arith)
 
-connects_low : EntersLow event.Connected
-connects_low = record { low = λ k host up new ps is. low_by event.Connected k host up new ps is (by_places k host up ps) }
-  where
-    by_places : (k : Link) (host : RuleHost) (up : Bool) (ps : List Place) → (let h = begun_host event.Connected up host in rank (entered_by event.Connected k h ps) (is_answered_in h) + 1 ≤ high (is_answered_in h))
-    by_places k host up [] = below_high (is_answered_in (begun_host event.Connected up host)) _ (connected_low host.net.loose (is_answered_in (begun_host event.Connected up host)))
-    by_places k host up (p ∷ ps) = below_high (is_answered_in (begun_host event.Connected up host)) 1 (omega arith)
+connects_low : (k : Link) (new : RuleHost) (ps : List Place) → new.net.wishes.ends ≡ None → rank (entered_by event.Connected k new ps) (is_answered_in new) ≤ 13
+connects_low k new [] none =
+    subst (λ o. rank (unless_ended o (connected_stage (is_some new.http) new.net.loose)) (is_answered_in new) ≤ 13) (sym none) (connected_low (is_some new.http) new.net.loose (is_answered_in new))
+connects_low k new (p ∷ ps) none = omega arith
 
 -- an event leaves whether a rule has answered; a request that begins isn't answered
 answered_still : (at : At) (up : Bool) (h : RuleHost) → is_answered_in (begun_host at up h) ≡ is_answered_in h
@@ -217,43 +261,106 @@ answered_still at up h = by_http h.http
     by_http (Some http) = refl
 
 -- a request that was read
-gathering_low : (n : ℕ) (http : Http) (answered : Bool) → rank (gathering_stage n http) answered ≤ high answered
-gathering_low zero http true = omega arith
-gathering_low zero http false = omega arith
-gathering_low (suc n) http true = omega arith
-gathering_low (suc n) http false = omega arith
+routed_low : (up left answered : Bool) → rank (routed_stage up left) answered ≤ (if answered then 10 else 4)
+routed_low false left true = omega arith
+routed_low false left false = omega arith
+routed_low true true true = omega arith
+routed_low true true false = omega arith
+routed_low true false true = omega arith
+routed_low true false false = omega arith
 
-asked_low : (expects : Bool) (http : Http) → rank (request_stage None expects http) false ≤ 3
-asked_low true http = omega arith
-asked_low false http = let k = gathering_low (wanted_more http) http false in omega (arith, k)
+gathering_low : (side : Side) (n : ℕ) (http : Http) (st : Stage) (answered : Bool) (most : ℕ) → rank st answered ≤ most → rank (gathering_stage side n http st) answered ≤ most
+gathering_low side zero http st answered most low = low
+gathering_low side (suc n) http st answered most low = omega arith
 
-request_low : (k : Link) (r : Request) (host : RuleHost) (up : Bool) (new : RuleHost) (ps : List Place) → new ≡ begun_host event.Request up (requested_host r host) → rank (entered_by event.Request k new ps) (is_answered_in new) ≤ 3
-request_low k r host up new ps is = subst (λ n. rank (entered_by event.Request k n ps) (is_answered_in n) ≤ 3) (sym is) (by_places ps)
+asked_low : (k : Link) (h : RuleHost) (answered : Bool) → rank (asked_stage k h) answered ≤ (if answered then 10 else 4)
+asked_low k h answered = gathering_low Client (wanted_more (http_in h)) (http_in h) (routed_stage (is_up k) (is_left (seen_host h))) answered _ (routed_low (is_up k) (is_left (seen_host h)) answered)
+
+begins_low : (expects : Bool) (k : Link) (h : RuleHost) → rank (request_stage None expects k h) false ≤ 5
+begins_low true k h = omega arith
+begins_low false k h = let low = asked_low k h false in omega (arith, low)
+
+request_low : (k : Link) (r : Request) (host : RuleHost) (up : Bool) (new : RuleHost) (ps : List Place) → new ≡ begun_host event.Request up (requested_host r host) → rank (entered_by event.Request k new ps) (is_answered_in new) ≤ 5
+request_low k r host up new ps is = subst (λ n. rank (entered_by event.Request k n ps) (is_answered_in n) ≤ 5) (sym is) (by_places ps)
   where
-    by_places : (ps : List Place) → rank (entered_by event.Request k (begun_host event.Request up (requested_host r host)) ps) false ≤ 3
-    by_places [] = asked_low (expects_by (http_in (begun_host event.Request up (requested_host r host))).came) (http_in (begun_host event.Request up (requested_host r host)))
+    by_places : (ps : List Place) → rank (entered_by event.Request k (begun_host event.Request up (requested_host r host)) ps) false ≤ 5
+    by_places [] = begins_low (expects_by (http_in (begun_host event.Request up (requested_host r host))).came) k (begun_host event.Request up (requested_host r host))
     by_places (p ∷ ps) = omega arith
 
-one_above : (answered : Bool) (n : ℕ) → n ≤ high answered → n + 1 ≤ rank stage.Continuing answered
+-- and a response
+answered_low : (answer : Option Bool) (http : Http) (answered : Bool) → rank (response_stage answer http) answered ≤ 10
+answered_low (Some closing) http answered = omega arith
+answered_low None http answered = gathering_low Server (wanted_more http) http (stage.Heading Server) answered 10 (omega arith)
+
+response_low : (k : Link) (r : Response) (host : RuleHost) (up : Bool) (new : RuleHost) (ps : List Place) → new ≡ begun_host event.Response up (responded_host r host) → rank (entered_by event.Response k new ps) (is_answered_in new) ≤ 10
+response_low k r host up new ps is = subst (λ n. rank (entered_by event.Response k n ps) (is_answered_in n) ≤ 10) (sym is) (by_places ps)
+  where
+    by_places : (ps : List Place) → (let h = begun_host event.Response up (responded_host r host) in rank (entered_by event.Response k h ps) (is_answered_in h) ≤ 10)
+    by_places [] = let h = begun_host event.Response up (responded_host r host) in answered_low (http_in h).answer (http_in h) (is_answered_in h)
+    by_places (p ∷ ps) = omega arith
+
+one_above : (answered : Bool) (n : ℕ) → n ≤ (if answered then 10 else 4) → n + 1 ≤ rank stage.Continuing answered
 one_above true n low = omega (arith, low)
 one_above false n low = omega (arith, low)
 
-gathering_calm : (n : ℕ) (http : Http) → has_body (gathering_stage n http) ≡ false
-gathering_calm zero http = refl
-gathering_calm (suc n) http = refl
-
-next_low : (closes answered : Bool) → rank (next_by closes) answered ≤ 4
+next_low : (closes answered : Bool) → rank (next_by closes) answered ≤ 6
 next_low true answered = omega arith
 next_low false answered = omega arith
 
-next_body_none : (closes : Bool) → has_body (next_by closes) ≡ false
-next_body_none true = refl
-next_body_none false = refl
+message_low : (side : Side) (h : RuleHost) (answered : Bool) → rank (message_stage side h) answered ≤ 11
+message_low Client h answered = omega arith
+message_low Server h answered = by_spent (is_spent_link (seen_host h))
+  where
+    by_spent : (x : Bool) → rank (spent_stage x (http_in h)) answered ≤ 11
+    by_spent true = omega arith
+    by_spent false = let k = next_low (client_closes (http_in h)) answered in omega (arith, k)
+
+server_low : (h : RuleHost) (answered : Bool) → rank (message_stage Server h) answered ≤ 8
+server_low h answered = by_spent (is_spent_link (seen_host h))
+  where
+    by_spent : (x : Bool) → rank (spent_stage x (http_in h)) answered ≤ 8
+    by_spent true = omega arith
+    by_spent false = let k = next_low (client_closes (http_in h)) answered in omega (arith, k)
+
+-- behind a message of a side, and behind its head
+below_body : (side : Side) (reader : BodyState) (standing : Bool) (h : RuleHost) (answered : Bool) → rank (message_stage side h) answered + 1 ≤ rank (stage.Forwarding side reader standing) answered
+below_body Client reader standing h answered = omega arith
+below_body Server reader standing h answered = let k = server_low h answered in omega (arith, k)
+
+below_head : (side : Side) (h : RuleHost) (answered whole : Bool) → rank (headed_stage side h whole) answered + 1 ≤ rank (stage.Heading side) answered
+below_head Client h answered true = omega arith
+below_head Client h answered false = omega arith
+below_head Server h answered true = let k = server_low h answered in omega (arith, k)
+below_head Server h answered false = omega arith
+
+body_few : (side : Side) (reader : BodyState) (standing answered : Bool) → 1 ≤ rank (stage.Forwarding side reader standing) answered
+body_few Client reader standing answered = omega arith
+body_few Server reader standing answered = omega arith
+
+body_same : (side : Side) (r q : BodyState) (x y answered : Bool) → rank (stage.Forwarding side r x) answered ≡ rank (stage.Forwarding side q y) answered
+body_same Client r q x y answered = refl
+body_same Server r q x y answered = refl
+
+-- and where a server connection is given up
+retired_low : (w : Behind) (http : Http) (answered : Bool) → rank (retired_stage w http) answered + 1 ≤ rank (stage.Retiring w) answered
+retired_low behind.BeforeSelect http true = omega arith
+retired_low behind.BeforeSelect http false = omega arith
+retired_low behind.BehindMessage http answered = let k = next_low (client_closes http) answered in omega (arith, k)
+
+gives_low : (w : Behind) (answered : Bool) → rank (stage.Retiring w) answered + 1 ≤ rank (stage.GivingUp w) answered
+gives_low behind.BeforeSelect true = omega arith
+gives_low behind.BeforeSelect false = omega arith
+gives_low behind.BehindMessage answered = omega arith
+
+gives_few : (w : Behind) (answered : Bool) → 1 ≤ rank (stage.GivingUp w) answered
+gives_few behind.BeforeSelect true = omega arith
+gives_few behind.BeforeSelect false = omega arith
+gives_few behind.BehindMessage answered = omega arith
 
 -- where it leads, and that it comes nearer to a body or a note
 pub record Led (s : code.Setup) (old new : Conn) (before after : List Note) (did : Act) : Type 0 where
   pub starts : Starts s new
-  pub moves : did ≡ done.Goes → rank_of new + 9 * length before + 1 ≤ rank_of old + 9 * length after
+  pub moves : did ≡ done.Goes → rank_of new + 15 * length before + 1 ≤ rank_of old + 15 * length after
 
 module _ (s : code.Setup) (c : ℕ) (old new : Conn) (before after : List Note) (did : Act) where
   abbrev Leads : Type 0
@@ -291,13 +398,20 @@ module _ (s : code.Setup) (c : ℕ) (old new : Conn) (before after : List Note) 
   by_reply is quiet None k = entered event.Failed _ _ failed_low refl is quiet k
   by_reply is quiet (Some addr) k = entered event.Selected _ _ selected_low refl is quiet k
 
-  by_answer : rank_of old ≡ high (is_answered_in old.host) → has_body old.stage ≡ false → (l : Link) → AnswersBy l s c old new before after did → Leads
-  by_answer is calm link.Made k = entered event.Connected _ _ connects_low refl is k.2 k.1
-  by_answer is calm link.Refused k = entered event.Failed _ _ failed_low refl is k.2 k.1
+  by_answer : rank_of old ≡ 14 → has_body old.stage ≡ false → (l : Link) → AnswersBy l s c old new before after did → Leads
+  by_answer is calm link.Made k =
+      let low = connects_low link.Up new.host (places_at s event.Connected) (ap (λ h. h.net.wishes.ends) k.1.host) in
+      lower 14 is (subst (λ st. rank st (is_answered_in new.host) + 1 ≤ 14) (sym k.1.there) (omega (arith, low))) k.2 (enters s event.Connected _ _ old new k.1)
+  by_answer is calm link.Refused k =
+      let flag : is_answered_in new.host ≡ is_answered_in old.host = ap is_answered_in k.1.host ∙ answered_still event.Failed (is_up link.Absent) old.host in
+      let r : rank_of new + 1 ≤ high (is_answered_in new.host) = subst (λ st. rank st (is_answered_in new.host) + 1 ≤ high (is_answered_in new.host)) (sym k.1.there) (failed_low.low link.Absent old.host (is_up link.Absent) new.host (places_at s event.Failed) k.1.host) in
+      let few = high_few (is_answered_in new.host) in
+      lower 14 is (omega (arith, r, few)) k.2 (enters s event.Failed _ _ old new k.1)
   by_answer is calm link.Absent k = by_rest (cut_of old) old calm k
   by_answer is calm link.Asked k = by_rest (cut_of old) old calm k
   by_answer is calm link.Up k = by_rest (cut_of old) old calm k
   by_answer is calm link.GivenUp k = by_rest (cut_of old) old calm k
+  by_answer is calm (link.Leaving w) k = by_rest (cut_of old) old calm k
 
   by_connect : has_body old.stage ≡ false → (to : Addr) (b : Bool) → MatchBool b ((did ≡ done.Goes) × Connects c to old new before after) (Rests s c old new before after did) → Leads
   by_connect calm to true k = noted _ (inl (ap has_body k.1.there)) k.1.noted
@@ -323,43 +437,134 @@ module _ (s : code.Setup) (c : ℕ) (old new : Conn) (before after : List Note) 
       let same : rank_of new ≡ rank st (is_answered_in old.host) = ap (λ x. rank x (is_answered_in new.host)) k.there ∙ ap (λ h. rank st (is_answered_in h)) k.host in
       lower r is (omega (arith, same, low)) quiet (inl (ap has_body k.there ∙ calm))
 
-  by_tell : rank_of old ≡ rank stage.Continuing (is_answered_in old.host) → has_body old.stage ≡ false → (b : Bool) → MatchBool b ((did ≡ done.Goes) × SendsClient continue_text (asked_stage (http_in old.host)) old new × (after ≡ before)) (Rests s c old new before after did) → Leads
+  by_tell : rank_of old ≡ rank stage.Continuing (is_answered_in old.host) → has_body old.stage ≡ false → (b : Bool) → MatchBool b ((did ≡ done.Goes) × SendsClient continue_text (asked_stage old.ends.link old.host) old new × (after ≡ before)) (Rests s c old new before after did) → Leads
   by_tell is calm true k =
-      let low = gathering_low (wanted_more (http_in old.host)) (http_in old.host) (is_answered_in old.host) in
-      sends (rank stage.Continuing (is_answered_in old.host)) continue_text (asked_stage (http_in old.host)) is (gathering_calm (wanted_more (http_in old.host)) (http_in old.host)) (one_above (is_answered_in old.host) _ low) k.2 k.1
+      let low = asked_low old.ends.link old.host (is_answered_in old.host) in
+      sends (rank stage.Continuing (is_answered_in old.host)) continue_text (asked_stage old.ends.link old.host) is (asked_no_body old.ends.link old.host) (one_above (is_answered_in old.host) _ low) k.2 k.1
   by_tell is calm false k = by_rest (cut_of old) old calm k
 
-  by_front : (reader : BodyState) (size : ℕ) → rank_of old ≡ 5 → (p : Part) → DropsBy p s c (dropped reader size old) new before after did → Leads
+  by_front : (reader : BodyState) (size : ℕ) → rank_of old ≡ 7 → (p : Part) → DropsBy p s c (dropped reader size old) new before after did → Leads
   by_front reader size is Byte k = absurd k
   by_front reader size is (Chunk line n) k = absurd k
   by_front reader size is (End n) k =
       let same : rank_of new ≡ rank (next_stage (http_in old.host)) (is_answered_in new.host) = ap (λ x. rank x (is_answered_in new.host)) k.1.there in
       let low = next_low (client_closes (http_in old.host)) (is_answered_in new.host) in
-      lower 5 is (omega (arith, same, low)) k.2 (inl (ap has_body k.1.there ∙ next_body_none (client_closes (http_in old.host))))
+      lower 7 is (omega (arith, same, low)) k.2 (inl (ap has_body k.1.there ∙ next_no_body (http_in old.host)))
   by_front reader size is Pending k = by_rest (cut_of (dropped reader size old)) (dropped reader size old) refl k
   by_front reader size is (Bad f) k = by_answered (is_answered Client f) k
     where
       by_answered : (x : Bool) → RefusesBy x f s c (dropped reader size old) new before after did → Leads
       by_answered true k =
           let same : rank_of new ≡ 0 = ap (λ x. rank x (is_answered_in new.host)) k.1.there in
-          lower 5 is (omega (arith, same)) k.2 (inl (ap has_body k.1.there))
+          lower 7 is (omega (arith, same)) k.2 (inl (ap has_body k.1.there))
       by_answered false k = noted _ (closes s (dropped reader size old) new k.1.0) k.1.1
 
-  refuses : (f : HttpFault) → rank_of old ≡ 4 → (x : Bool) → RefusesBy x f s c old new before after did → Leads
-  refuses f is true k = sends 4 (refusal f) (stage.Finishing (finish.Http f)) is refl (omega arith) k.2 k.1
+  refuses : (f : HttpFault) → rank_of old ≡ 6 → (x : Bool) → RefusesBy x f s c old new before after did → Leads
+  refuses f is true k = sends 6 (refusal f) (stage.Finishing (finish.Http f)) is refl (omega arith) k.2 k.1
   refuses f is false k = noted _ (closes s old new k.1.0) k.1.1
 
-  by_request : (n : ℕ) → rank_of old ≡ 4 → (r : Result Request HttpFault) → RequestBy r n s c old new before after did → Leads
+  by_request : (n : ℕ) → rank_of old ≡ 6 → (r : Result Request HttpFault) → RequestBy r n s c old new before after did → Leads
   by_request n is (Ok r) k =
-      let low : rank_of new ≤ 3 = subst (λ st. rank st (is_answered_in new.host) ≤ 3) (sym k.1.there) (request_low old.ends.link r old.host (is_up old.ends.link) new.host (places_at s event.Request) k.1.host) in
-      lower 4 is (omega (arith, low)) k.2 (enters s event.Request _ _ old new k.1)
+      let low : rank_of new ≤ 5 = subst (λ st. rank st (is_answered_in new.host) ≤ 5) (sym k.1.there) (request_low old.ends.link r old.host (is_up old.ends.link) new.host (places_at s event.Request) k.1.host) in
+      lower 6 is (omega (arith, low)) k.2 (enters s event.Request _ _ old new k.1)
   by_request n is (Err f) k = refuses f is (is_answered Client f) k
 
-  by_head : rank_of old ≡ 4 → has_body old.stage ≡ false → (p : HeadPart) → HeadBy p s c old new before after did → Leads
+  by_head : rank_of old ≡ 6 → has_body old.stage ≡ false → (p : HeadPart) → HeadBy p s c old new before after did → Leads
   by_head is calm (HeadOf n) k = by_request n is (request_of (take n old.ends.client.unread)) k
   by_head is calm StreamEnds k = noted _ (closes s old new k.1.0) k.1.1
   by_head is calm (Faulty f) k = refuses f is (is_answered Client f) k
   by_head is calm NoHead k = by_rest (cut_of old) old calm k
+
+  -- messages
+  becomes_lower : (r : ℕ) (st : Stage) (e : Ends) → rank_of old ≡ r → has_body st ≡ false → rank st (is_answered_in old.host) + 1 ≤ r → after ≡ before → Becomes st e old new → Leads
+  becomes_lower r st e is calm low quiet k =
+      let same : rank_of new ≡ rank st (is_answered_in old.host) = ap (λ x. rank x (is_answered_in new.host)) k.there ∙ ap (λ h. rank st (is_answered_in h)) k.host in
+      lower r is (omega (arith, same, low)) quiet (inl (ap has_body k.there ∙ calm))
+
+  -- a server connection that is given up
+  by_giving : (w : Behind) → rank_of old ≡ rank (stage.GivingUp w) (is_answered_in old.host) → after ≡ before → LeavesServer s w old new → Leads
+  by_giving w is quiet k = by_test (nat_lt 0 (length (places_at s event.Leaving))) k.goes
+    where
+      flag : is_answered_in k.mid.host ≡ is_answered_in old.host
+      flag = ap is_answered_in k.host ∙ answered_still event.Leaving false old.host
+
+      by_test : (x : Bool) → MatchBool x (StartsBody s event.Leaving 0 k.mid new) (Leaves s event.Leaving k.mid new) → Leads
+      by_test true c =
+          let none : rank_of new ≡ 0 = ap (λ st. rank st (is_answered_in new.host)) c.there in
+          let few = gives_few w (is_answered_in old.host) in
+          lower _ is (omega (arith, none, few)) quiet (starts_body s event.Leaving 0 k.mid new c)
+      by_test false c =
+          let there : new.stage ≡ stage.Retiring w = c.there ∙ ap (λ e. leaving_stage e.link) k.ends in
+          let same : rank_of new ≡ rank (stage.Retiring w) (is_answered_in old.host) = ap (λ x. rank x (is_answered_in new.host)) there ∙ ap (λ h. rank (stage.Retiring w) (is_answered_in h)) c.host ∙ ap (rank (stage.Retiring w)) flag in
+          let low = gives_low w (is_answered_in old.host) in
+          lower _ is (omega (arith, same, low)) quiet (inl (ap has_body there))
+
+  by_retiring : (w : Behind) → rank_of old ≡ rank (stage.Retiring w) (is_answered_in old.host) → Retires c w old new before after → Leads
+  by_retiring w is k = by_taken (is_empty (queue_in Server old)) refl k.noted
+    where
+      calm : has_body (retired_stage w (http_in old.host)) ≡ false
+      calm = retired_no_body w (http_in old.host)
+
+      by_taken : (x : Bool) → is_empty (queue_in Server old) ≡ x → after ≡ before ++ closed_notes c x → Leads
+      by_taken true e noted' = noted _ (inl (ap has_body k.becomes.there ∙ calm)) noted'
+      by_taken false e noted' = becomes_lower _ _ _ is calm (retired_low w (http_in old.host) (is_answered_in old.host)) (noted' ∙ append-nil before) k.becomes
+
+  by_heading : (side : Side) → rank_of old ≡ rank (stage.Heading side) (is_answered_in old.host) → has_body old.stage ≡ false → (x : Bool) → MatchBool x ((did ≡ done.Goes) × Becomes (headed_stage side old.host (http_in old.host).whole) (moved_as side 0 (head_bytes side (http_in old.host)) old.ends) old new × (after ≡ before)) (Rests s c old new before after did) → Leads
+  by_heading side is calm true k = becomes_lower _ _ _ is (headed_no_body side old.host (http_in old.host).whole) (below_head side old.host (is_answered_in old.host) (http_in old.host).whole) k.2 k.1
+  by_heading side is calm false k = by_rest (cut_of old) old calm k
+
+  -- what stands in front of what is left of a body
+  module _ (side : Side) (reader : BodyState) (standing : Bool) (to : Passage) (is : rank_of old ≡ rank (stage.Forwarding side reader standing) (is_answered_in old.host)) where
+    abbrev mid : Conn
+    mid = passed_to side to old
+
+    at_mid : rank_of old ≡ rank (stage.Forwarding side to.at.reader to.at.standing) (is_answered_in old.host)
+    at_mid = is ∙ body_same side reader to.at.reader standing to.at.standing (is_answered_in old.host)
+
+    goes_lower : (st : Stage) (e : Ends) → has_body st ≡ false → rank st (is_answered_in old.host) + 1 ≤ rank (stage.Forwarding side to.at.reader to.at.standing) (is_answered_in old.host) → after ≡ before → Becomes st e mid new → Leads
+    goes_lower st e calm low quiet k =
+        let same : rank_of new ≡ rank st (is_answered_in old.host) = ap (λ x. rank x (is_answered_in new.host)) k.there ∙ ap (λ h. rank st (is_answered_in h)) k.host in
+        lower _ at_mid (omega (arith, same, low)) quiet (inl (ap has_body k.there ∙ calm))
+
+    by_end : (n : ℕ) (x : Bool) → EndsBy x side to.at.standing n s c mid new before after did → Leads
+    by_end n true k = goes_lower _ _ (message_no_body side old.host) (below_body side to.at.reader to.at.standing old.host (is_answered_in old.host)) k.2 k.1
+    by_end n false k = by_room (ends_room side to.ends) k
+      where
+        by_room : (r : Bool) → MatchBool r ((did ≡ done.Goes) × Becomes (message_stage side old.host) (moved_as side n (last_line to.at.standing) to.ends) mid new × (after ≡ before)) (Rests s c mid new before after did) → Leads
+        by_room true k = goes_lower _ _ (message_no_body side old.host) (below_body side to.at.reader to.at.standing old.host (is_answered_in old.host)) k.2 k.1
+        by_room false k = by_rest (cut_of mid) mid refl k
+
+    by_part : (p : Part) → FrontBy p side to.at.reader to.at.standing s c mid new before after did → Leads
+    by_part Byte k = by_rest (cut_of mid) mid refl k.1
+    by_part (Chunk line size) k = by_rest (cut_of mid) mid refl k.1
+    by_part (End n) k = by_end n (is_counted to.at.reader) k
+    by_part Pending k = by_rest (cut_by (is_server side) mid) mid refl k
+    by_part (Bad f) k = by_fault (is_answered side f) k
+      where
+        by_fault : (x : Bool) → RefusesBy x f s c mid new before after did → Leads
+        by_fault true k =
+            let none : rank_of new ≡ 0 = ap (λ x. rank x (is_answered_in new.host)) k.1.there in
+            let few = body_few side to.at.reader to.at.standing (is_answered_in old.host) in
+            lower _ at_mid (omega (arith, none, few)) k.2 (inl (ap has_body k.1.there))
+        by_fault false k = noted _ (closes s mid new k.1.0) k.1.1
+
+  -- a response
+  module _ (to : Ends) (is : rank_of old ≡ 11) (calm : has_body old.stage ≡ false) where
+    abbrev before_final : Conn
+    before_final = with_ends to old
+
+    by_status : (n : ℕ) (r : Response) (x y : Bool) → StatusBy x y n r s c before_final new before after did → Leads
+    by_status n r true y k = noted _ (closes s before_final new k.1.0) k.1.1
+    by_status n r false true k = by_rest (cut_of before_final) before_final calm k.1
+    by_status n r false false k =
+        let low : rank_of new ≤ 10 = subst (λ st. rank st (is_answered_in new.host) ≤ 10) (sym k.1.there) (response_low to.link r old.host (is_up to.link) new.host (places_at s event.Response) k.1.host) in
+        lower 11 is (omega (arith, low)) k.2 (enters s event.Response _ _ before_final new k.1)
+
+    by_read : (x : Answer) → AnswerBy x s c before_final new before after did → Leads
+    by_read (answer.Head n r) k = by_status n r (switches r) (is_interim r.head) k
+    by_read answer.Ends k = noted _ (closes s before_final new k.1.0) k.1.1
+    by_read (answer.Fault f) k = noted _ (closes s before_final new k.1.0) k.1.1
+    by_read answer.NoHead k = by_rest (cut_by true before_final) before_final calm k
 
   pub outside_led : (ticks : ℕ) → Acted s c old new before after did ticks → has_body old.stage ≡ false → Leads
   outside_led ticks k calm = by_stage old.stage refl k
@@ -383,7 +588,13 @@ module _ (s : code.Setup) (c : ℕ) (old new : Conn) (before after : List Note) 
       by_stage stage.Collecting is k = by_collect calm (meets old.host.net.client.asks old.ends.client.unread) k
       by_stage stage.AtHead is k = by_head (at_rank is) calm (head_part old.ends.client.unread old.ends.client.ended) k.1
       by_stage stage.Continuing is (spoken, k) = by_tell (at_rank is) calm (client_room old) k
-      by_stage (stage.Gathering wanted reader) is k = absurd k
+      by_stage (stage.Gathering side wanted reader) is k = absurd k
+      by_stage stage.AtReuse is k = noted _ (inl (ap has_body k.1.becomes.there ∙ reuse_no_body (is_whole old.ends.server))) k.1.noted
+      by_stage (stage.GivingUp w) is k = by_giving w (at_rank is) k.2 k.1
+      by_stage (stage.Retiring w) is k = by_retiring w (at_rank is) k.1
+      by_stage (stage.Heading side) is (spoken, k) = by_heading side (at_rank is) calm (ends_room side old.ends) k
+      by_stage (stage.Forwarding side reader standing) is (spoken, k) = by_part side reader standing k.to (at_rank is) (part_at side k.to) k.goes
+      by_stage stage.AtResponse is (spoken, k) = by_read k.to (at_rank is) calm (answer_of (http_in old.host).came k.to.server) k.goes
       by_stage (stage.Dropping reader) is (spoken, k) = by_front k.left k.size (at_rank is) (part_of k.left (drop k.size old.ends.client.unread) old.ends.client.ended) k.goes
       by_stage stage.Releasing is k = by_release (at_rank is) calm (server_room old) k
       by_stage (stage.Relaying first) is k = by_relay (relay_plan first old.host.net old.ends) k
@@ -394,13 +605,13 @@ module _ (s : code.Setup) (c : ℕ) (old new : Conn) (before after : List Note) 
 
 -- so each action that goes on comes nearer to a note or counts a step
 pub progress : (s : code.Setup) (c : ℕ) (old new : Conn) (before after : List Note) (ticks : ℕ) → Acted s c old new before after done.Goes ticks → (is_running old.stage ≡ true → 1 ≤ ticks) → length before ≤ length after
-    → rank_of new + 9 * length before + 1 ≤ rank_of old + 9 * (ticks + length after)
+    → rank_of new + 15 * length before + 1 ≤ rank_of old + 15 * (ticks + length after)
 progress s c old new before after ticks k counts grows = by_stage old.stage refl k
   where
-    outside : (st : Stage) → old.stage ≡ st → has_body st ≡ false → rank_of new + 9 * length before + 1 ≤ rank_of old + 9 * (ticks + length after)
+    outside : (st : Stage) → old.stage ≡ st → has_body st ≡ false → rank_of new + 15 * length before + 1 ≤ rank_of old + 15 * (ticks + length after)
     outside st is calm = let m = (outside_led s c old new before after done.Goes ticks k (ap has_body is ∙ calm)).moves refl in omega (arith, m)
 
-    by_stage : (st : Stage) → old.stage ≡ st → ActedAt st s c old new before after done.Goes ticks → rank_of new + 9 * length before + 1 ≤ rank_of old + 9 * (ticks + length after)
+    by_stage : (st : Stage) → old.stage ≡ st → ActedAt st s c old new before after done.Goes ticks → rank_of new + 15 * length before + 1 ≤ rank_of old + 15 * (ticks + length after)
     by_stage (stage.Running at n) is k = let t = counts (ap is_running is) in let r = rank_few new.stage (is_answered_in new.host) in omega (arith, t, r, grows)
     by_stage (stage.Asking at n) is k = absurd (let e = k.0 in cc)
     by_stage other is k = outside other is refl

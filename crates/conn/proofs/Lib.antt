@@ -14,6 +14,12 @@ pub mod Leading
 pub mod Paying
 pub mod Affording
 pub mod Answering
+pub mod Going
+pub mod Moving
+pub mod Sending
+pub mod UnitsGo
+pub mod Reusing
+pub mod Responding
 pub mod Refusing
 pub mod Dropped
 pub mod Requesting
@@ -31,6 +37,7 @@ pub mod Connecting
 pub mod Taking
 pub mod Beginning
 pub mod Replying
+pub mod Telling
 pub mod Advancing
 pub mod Spending
 pub mod Running

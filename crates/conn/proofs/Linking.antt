@@ -35,17 +35,21 @@ use Rattle.conn.specs.declared.setup.Setup as code_setup
 use Rattle.conn.specs.declared.stage.Stage.TheVariants as stage
 use Rattle.conn.specs.declared.turn.Act as step_act
 use Rattle.conn.specs.declared.turn.Act.TheVariants as done
-use Rattle.conn.proofs.Acting.{ActGave, gone_holds, rest_group, rest_noted, rests_gave}
+use Rattle.conn.proofs.Acting.{ActGave, gone_holds, rest_group, rest_noted, rests_gave, plain_rest}
 use Rattle.conn.proofs.Gating.{stands_in}
 use Rattle.conn.proofs.Giving.{gave_one, same_queue}
 use Rattle.conn.proofs.Pending.{connect_is, server_waits}
-use Rattle.conn.proofs.Places.{enters_gone, Known, is_plain, known as known_of}
+use Rattle.conn_trace.specs.Routing.{chosen}
+use Rattle.conn_trace.specs.Trace.{served_by}
+use Rattle.conn.specs.Hosts.{serving_host}
+use Rattle.conn.proofs.Places.{enters_gone, Known, still_some}
 use Rattle.conn.proofs.SelectItems.{StandsIn, connecting_item, made_item, refused_item, unanswered}
 
 -- no server was asked for, or it is given up
 free_down : (k : Link) → not (is_sought k) ≡ true → is_up k ≡ false
 free_down link.Absent fit = refl
 free_down link.GivenUp fit = refl
+free_down (link.Leaving w) fit = refl
 free_down link.Asked fit = absurd (true≢false (sym fit))
 free_down link.Refused fit = absurd (true≢false (sym fit))
 free_down link.Made fit = absurd (true≢false (sym fit))
@@ -54,6 +58,7 @@ free_down link.Up fit = absurd (true≢false (sym fit))
 free_answers : (k : Link) (e : End) → not (is_sought k) ≡ true → connects_by k e ≡ []
 free_answers link.Absent e fit = refl
 free_answers link.GivenUp e fit = refl
+free_answers (link.Leaving w) e fit = refl
 free_answers link.Asked e fit = absurd (true≢false (sym fit))
 free_answers link.Refused e fit = absurd (true≢false (sym fit))
 free_answers link.Made e fit = absurd (true≢false (sym fit))
@@ -63,6 +68,7 @@ free_answers link.Up e fit = absurd (true≢false (sym fit))
 free_number : (k : Link) (ts : List (Option ℕ)) (b : Bool) (n : ℕ) → not (is_sought k) ≡ true → number_by k (length ts) ≡ length (servers_by ts k b n)
 free_number link.Absent ts b n fit = refl
 free_number link.GivenUp ts b n fit = (let k = length-append ts (taken_by b n ∷ []) in omega (arith, k))
+free_number (link.Leaving w) ts b n fit = (let k = length-append ts (taken_by b n ∷ []) in omega (arith, k))
 free_number link.Asked ts b n fit = absurd (true≢false (sym fit))
 free_number link.Refused ts b n fit = absurd (true≢false (sym fit))
 free_number link.Made ts b n fit = absurd (true≢false (sym fit))
@@ -148,6 +154,7 @@ answer_noted s c link.Absent old new before after did k = rest_noted s c old new
 answer_noted s c link.Asked old new before after did k = rest_noted s c old new before after did (cut_of old) k
 answer_noted s c link.Up old new before after did k = rest_noted s c old new before after did (cut_of old) k
 answer_noted s c link.GivenUp old new before after did k = rest_noted s c old new before after did (cut_of old) k
+answer_noted s c (link.Leaving w) old new before after did k = rest_noted s c old new before after did (cut_of old) k
 
 module _ (s : code_setup.Setup) (g : Setup) (serves : Serves s g) (a : Around) (l : TraceState) (c : ℕ) (old new : Conn) (h : Holds g a l old) where
   -- the trace asks for it
@@ -161,7 +168,7 @@ module _ (s : code_setup.Setup) (g : Setup) (serves : Serves s g) (a : Around) (
       let stands : Stands g (stage.Answering to) at new = (refl, record { vars = b.vars ∙ sym k.vars; host = b.host ∙ ap seen_host (sym k.host); replies = b.replies }) in
       record {
         at = at;
-        gave = gave_one g a l at c old new (Connected to) h.no_cut (record { calls = refl; client = refl; kept = refl; to_none = refl; opens = λ c s t. refl; takes = (refl, λ t. refl) }) (asks_step to (phase, b)) (connect_is a l old.ends h.ends ∙ none)
+        gave = gave_one g a l at c old new (Connected to) h.no_cut (record { calls = refl; client = refl; to_none = refl; opens = λ c s t. refl; takes = (refl, λ t. refl) }) (asks_step to (phase, b)) (connect_is a l old.ends h.ends ∙ none)
             (record {
               stage = subst (λ x. Stands g x at new) (sym k.there) stands;
               finished = h.finished ∙ ap has_finished is ∙ ap has_finished (sym k.there);
@@ -171,7 +178,6 @@ module _ (s : code_setup.Setup) (g : Setup) (serves : Serves s g) (a : Around) (
                 from = ap (λ x. x.net.from) k.host ∙ h.told.from;
                 relays = λ r. absurd (true≢false (sym (h.told.relays (ap (λ x. x.net.relays) (sym k.host) ∙ r)) ∙ free_down old.ends.link free));
                 spoken = ap (λ x. is_some x.http) k.host ∙ h.told.spoken;
-                alone = λ e. absurd (true≢false (sym e ∙ sym h.told.spoken ∙ ap is_some k.plain));
               };
               ends = subst (λ e. HoldsEnds a at e) (sym k.ends) (asked_holds a l to old.ends h.ends free none);
               no_choice = h.no_choice;
@@ -189,7 +195,7 @@ module _ (s : code_setup.Setup) (g : Setup) (serves : Serves s g) (a : Around) (
       by_test false some k =
           let step = asks_step to st in
           let shut : GivesNoMore false l.sent a.took (next_item g l) = subst (λ o. GivesNoMore false l.sent a.took o) (sym step) (connect_is a l old.ends h.ends ∙ some) in
-          rests_gave s g serves a l c old new h st.1 before after did (ap is_in_body is) shut (λ o. let e = sym step ∙ o in cc) k
+          rests_gave s g serves a l c old new h st.1 before after did (ap is_in_body is) shut (ap plain_rest step) k
 
   pub answers : (to : Addr) (before after : List Note) (did : step_act.Act) → old.stage ≡ stage.Answering to → Stands g (stage.Answering to) l old → Answers s c old new before after did → ActGave g a l c old new (answer_group old.ends.link c (cut_of old)) did
   answers to before after did is (phase, b) k = by_link old.ends.link refl k
@@ -206,20 +212,20 @@ module _ (s : code_setup.Setup) (g : Setup) (serves : Serves s g) (a : Around) (
       rests : (k : Link) → old.ends.link ≡ k → connects_by k old.ends.server ≡ [] → Rests s c old new before after did → ActGave g a l c old new (rest_group c (cut_of old)) did
       rests k e none r =
           let waits = unanswered g (link_by old.ends.link) (seen_host old.host) l to here (h.ends.connects ∙ ap (λ x. connects_by x old.ends.server) e ∙ none) in
-          rests_gave s g serves a l c old new h b before after did (ap is_in_body is) (subst (λ o. GivesNoMore false l.sent a.took o) (sym waits) refl) (λ o. let x = sym waits ∙ o in cc) r
+          rests_gave s g serves a l c old new h b before after did (ap is_in_body is) (subst (λ o. GivesNoMore false l.sent a.took o) (sym waits) refl) (ap plain_rest waits) r
 
       by_link : (k : Link) → old.ends.link ≡ k → AnswersBy k s c old new before after did → ActGave g a l c old new (answer_group k c (cut_of old)) did
       by_link link.Made e (goes, enters, none) =
           let l' : TraceState = with_connects [] (record l { server = There (arrived old.ends.server); sent = sent_after (Answered true) l.sent }) in
           let ends = with_link link.Up old.ends in
-          let p = enter g (event_of event.Connected) (link_by link.Up) (seen_host old.host) in
-          let known : Known g link.Up old.host = record { from = h.told.from; spoken = h.told.spoken; alone = λ hp. absurd (let x = sym e ∙ h.told.alone hp in cc) } in
-          let gone = enters_gone g l' s serves event.Connected old.host ends old new enters b.vars b.replies known refl refl (λ x. cc) in
-          let plain = is_plain g old.ends.link old.host (known_of g old.ends.link old.host h.told) (λ x. (let y = sym e ∙ x in cc)) in
-          let step = made_item g (link_by old.ends.link) (seen_host old.host) l to (arrived old.ends.server) plain here (h.ends.connects ∙ ap (λ x. connects_by x old.ends.server) e) in
+          let host = serving_host old.host in
+          let p = enter g (event_of event.Connected) (link_by link.Up) (seen_host host) in
+          let known : Known g host = record { from = h.told.from; spoken = still_some (served_by (chosen (seen_host old.host))) old.host.http ∙ h.told.spoken } in
+          let gone = enters_gone g l' s serves event.Connected host ends old new enters b.vars b.replies known refl refl (λ x. cc) in
+          let step = made_item g (link_by old.ends.link) (seen_host old.host) l to (arrived old.ends.server) here (h.ends.connects ∙ ap (λ x. connects_by x old.ends.server) e) in
           subst (λ d. ActGave g a l c old new [] d) (sym goes) (record {
             at = put p l';
-            gave = gave_one g a l (put p l') c old new (Answered true) h.no_cut (record { calls = refl; client = refl; kept = refl; to_none = refl; opens = λ c s t. refl; takes = (refl, λ t. refl) }) step refl
+            gave = gave_one g a l (put p l') c old new (Answered true) h.no_cut (record { calls = refl; client = refl; to_none = refl; opens = λ c s t. refl; takes = (refl, λ t. refl) }) step refl
                 (gone_holds g a false p l' ends new gone going (made_holds a l (put p l') old.ends h.ends e refl refl refl refl) h.no_choice h.no_cut)
                 (ap (λ x. x.client.queued) gone.ends) (same_queue gone.ends) (ap (λ x. x.edges) gone.ends) (λ f. f);
             stops = gone.awake;
@@ -228,16 +234,17 @@ module _ (s : code_setup.Setup) (g : Setup) (serves : Serves s g) (a : Around) (
           let l' : TraceState = with_connects [] (record l { server = NoServer }) in
           let ends = with_link link.Absent old.ends in
           let p = enter g (event_of event.Failed) (link_by link.Absent) (seen_host old.host) in
-          let gone = enters_gone g l' s serves event.Failed old.host ends old new enters b.vars b.replies (record { from = h.told.from; spoken = h.told.spoken; alone = λ hp. refl }) refl refl (λ x. cc) in
+          let gone = enters_gone g l' s serves event.Failed old.host ends old new enters b.vars b.replies (record { from = h.told.from; spoken = h.told.spoken }) refl refl (λ x. cc) in
           let step = refused_item g (link_by old.ends.link) (seen_host old.host) l to here (h.ends.connects ∙ ap (λ x. connects_by x old.ends.server) e) in
           subst (λ d. ActGave g a l c old new [] d) (sym goes) (record {
             at = put p l';
-            gave = gave_one g a l (put p l') c old new (Answered false) h.no_cut (record { calls = refl; client = refl; kept = refl; to_none = refl; opens = λ c s t. refl; takes = (refl, λ t. refl) }) step refl
+            gave = gave_one g a l (put p l') c old new (Answered false) h.no_cut (record { calls = refl; client = refl; to_none = refl; opens = λ c s t. refl; takes = (refl, λ t. refl) }) step refl
                 (gone_holds g a false p l' ends new gone going (refused_holds a l (put p l') old.ends h.ends e refl refl refl refl) h.no_choice h.no_cut)
                 (ap (λ x. x.client.queued) gone.ends) (same_queue gone.ends) (ap (λ x. x.edges) gone.ends) (λ f. f);
             stops = gone.awake;
           })
       by_link link.Absent e k = absurd (true≢false (sym fit.0 ∙ ap is_sought e))
       by_link link.GivenUp e k = absurd (true≢false (sym fit.0 ∙ ap is_sought e))
+      by_link (link.Leaving w) e k = absurd (true≢false (sym fit.0 ∙ ap is_sought e))
       by_link link.Asked e k = rests link.Asked e refl k
       by_link link.Up e k = absurd (true≢false (sym fit.1 ∙ ap (λ x. not (is_up x)) e))

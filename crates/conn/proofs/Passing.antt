@@ -1,5 +1,5 @@
 -- A relay passes bytes on, finishes or rests.
-use Rattle.std.proofs.Common.{◌≡◌, refl, sym, ap, subst, ◌∙◌, ℕ, ◌≤◌, ◌<◌, List, [], ◌∷◌, ◌++◌, append-nil, length, length-append, take, Bool, true, false, true≢false, ◌&&◌, ◌||◌, not, nat_le, nat_lt, Option, None, arith, length-take-le, if◌then◌else◌, eq-eqb}
+use Rattle.std.proofs.Common.{◌≡◌, refl, sym, ap, subst, ◌∙◌, ℕ, ◌≤◌, ◌<◌, List, [], ◌∷◌, ◌++◌, append-nil, length, length-append, take, Bool, true, false, true≢false, ◌&&◌, ◌||◌, not, nat_le, nat_lt, Option, None, arith, length-take-le, if◌then◌else◌}
 use Rattle.std.specs.Option.{is_some}
 use Rattle.std.proofs.lemmas.Bool.Decides.{nat_tests}
 use Rattle.px_bytes.specs.declared.addr.Side.{Side}
@@ -36,13 +36,13 @@ use Rattle.conn.specs.declared.stage.Finish.TheVariants as finish
 use Rattle.conn.specs.declared.stage.Stage.TheVariants as stage
 use Rattle.conn.specs.declared.turn.Act as step_act
 use Rattle.conn.specs.declared.turn.Act.TheVariants as done
-use Rattle.conn.proofs.Acting.{ActGave, finishes_gave, rest_group, rest_noted, rests_gave}
+use Rattle.conn.proofs.Acting.{ActGave, finishes_gave, rest_group, rest_noted, rests_gave, plain_rest}
 use Rattle.conn.proofs.Firing.{fires_client, fires_server}
 use Rattle.conn.proofs.Joining.{TakesNoCut}
 use Rattle.conn.proofs.PassItems.{passed_client, passed_server, passes_client, passes_server}
 use Rattle.conn.proofs.Pending.{client_waits, here_untaken, server_waits, up_untaken, up_number}
 use Rattle.conn.proofs.RelayItems.{InRelay, none_passes, passes_within, relay_ends, relay_fires, relay_rests, relay_waits, some_passes, unmet_waits}
-use Rattle.conn.specs.Servers.{closed_behind, queue_at_server, queue_behind, gives_up}
+use Rattle.conn.specs.Servers.{closed_behind, queue_at_server, queue_behind}
 use Rattle.conn.proofs.Giving.{quiet_queue}
 use Rattle.conn.proofs.Places.{known, known_same, told_of}
 
@@ -57,6 +57,7 @@ up_is link.Refused fit = absurd (true≢false (sym fit))
 up_is link.Made fit = absurd (true≢false (sym fit))
 up_is link.Up fit = refl
 up_is link.GivenUp fit = absurd (true≢false (sym fit))
+up_is (link.Leaving w) fit = absurd (true≢false (sym fit))
 
 -- bytes of the client go to the server, and bytes of the server to the client
 client_moved : (a : Around) (l : TraceState) (n : ℕ) (e : Ends) → HoldsEnds a l e → e.link ≡ link.Up → HoldsEnds a (passed_client n (arrived e.client) l) (moved Client n e)
@@ -188,7 +189,7 @@ module _ (s : code_setup.Setup) (g : Setup) (serves : Serves s g) (a : Around) (
     finished = finished ∙ going ∙ ap has_finished (sym k.there);
     fits = ap (λ x. fits x new.ends.link) k.there ∙ ap (λ e. is_up e.link) k.ends ∙ ap is_up (same ∙ up);
     event = subst (λ x. HostIn x new.host.event) (sym k.there) tt;
-    told = told_of g new.ends.link new.host (known_same g old.ends.link new.ends.link old.host new.host (ap (λ x. x.net.from) k.host) (ap (λ x. is_some x.http) k.host) (ap (λ e. e.link) k.ends ∙ same) (known g old.ends.link old.host h.told)) (λ r. ap (λ e. is_up e.link) k.ends ∙ ap is_up (same ∙ up));
+    told = told_of g new.ends.link new.host (known_same g old.host new.host (ap (λ x. x.net.from) k.host) (ap (λ x. is_some x.http) k.host) (known g old.ends.link old.host h.told)) (λ r. ap (λ e. is_up e.link) k.ends ∙ ap is_up (same ∙ up));
     ends = subst (λ e. HoldsEnds a at e) (sym k.ends) ends;
     no_choice = no_choice;
     no_cut = no_cut;
@@ -196,9 +197,9 @@ module _ (s : code_setup.Setup) (g : Setup) (serves : Serves s g) (a : Around) (
 
   -- one item, on the choice that it takes
   chosen_gave : (at : TraceState) (i : Item) (side : Side) (n : ℕ) (before after : List Note) → PassesBytes c side n old new before after → Holds g a at new → calls_in (i ∷ []) ≡ [] → choices_in (i ∷ []) ≡ PassesOn side n ∷ [] → TakesNoCut (i ∷ []) → may_give i l.sent a.took ≡ true
-      → next_item g (longer (choosing (PassesOn side n ∷ []) None) l) ≡ Does i at → gives_up (i ∷ []) ≡ false → server_output 0 (i ∷ []) ≡ [] → ((sent : Counts) → closed_behind c sent a.took i ≡ []) → note_of c i ≡ note.Pass c side n ∷ []
+      → next_item g (longer (choosing (PassesOn side n ∷ []) None) l) ≡ Does i at → server_output 0 (i ∷ []) ≡ [] → ((sent : Counts) → closed_behind c sent a.took i ≡ []) → note_of c i ≡ note.Pass c side n ∷ []
       → (moved side n old.ends).client.queued ≡ old.ends.client.queued ++ to_client i → queue_at_server (moved side n old.ends) ≡ queue_behind i (queue_at_server old.ends) → (moved side n old.ends).edges ≡ old.ends.edges → ActGave g a l c old new (note.Pass c side n ∷ []) done.Goes
-  chosen_gave at i side n before after k holds called choice uncut may step kept to_none opens noted client server edges =
+  chosen_gave at i side n before after k holds called choice uncut may step to_none opens noted client server edges =
       let taken : longer (taken_by_items a.took (i ∷ [])) l ≡ longer (choosing (PassesOn side n ∷ []) None) l = ap (λ x. longer (choosing x (cut_in a.took (i ∷ []))) l) choice ∙ ap (λ x. longer (choosing (PassesOn side n ∷ []) x) l) (uncut a.took) in
       record {
         at = at;
@@ -208,7 +209,6 @@ module _ (s : code_setup.Setup) (g : Setup) (serves : Serves s g) (a : Around) (
           holds = holds;
           client_queue = ap (λ e. e.client.queued) k.ends ∙ client ∙ ap (λ x. old.ends.client.queued ++ x) (sym (append-nil (to_client i)));
           servers = ap queue_at_server k.ends ∙ server;
-          kept = kept;
           to_none = to_none;
           edges = ap (λ e. e.edges) k.ends ∙ edges;
           noted = sym noted ∙ sym (append-nil (note_of c i)) ∙ ap (λ x. note_of c i ++ (x ++ [])) (sym (opens (sent_after i l.sent)));
@@ -235,7 +235,7 @@ module _ (s : code_setup.Setup) (g : Setup) (serves : Serves s g) (a : Around) (
       chosen_gave at i Client n before after k
       (holds_on at Client n before after k (relays_on at Client n before after k refl refl refl refl) refl (client_moved a l n old.ends h.ends up) refl refl h.no_cut)
       refl (ap (λ m. PassesOn Client m ∷ []) count) (λ t. refl) (ap (λ m. nat_lt m room_limit) (server_waits a l old.ends h.ends) ∙ some_passes u (length (queue_of old.ends.server)) some)
-      (passes_client g (of_client old) (of_server old) l n here h.no_choice more some free within) refl (ap (λ b. (if b then take n u else []) ++ []) (up_number a l old.ends h.ends (ap is_up up))) (λ x. refl) (ap (λ m. note.Pass c Client m ∷ []) count)
+      (passes_client g (of_client old) (of_server old) l n here h.no_choice more some free within) (ap (λ b. (if b then take n u else []) ++ []) (up_number a l old.ends h.ends (ap is_up up))) (λ x. refl) (ap (λ m. note.Pass c Client m ∷ []) count)
       (sym (append-nil old.ends.client.queued)) refl refl
   passes_side Server before after more free some k =
       let n = to_pass old.ends.server old.ends.client in
@@ -247,7 +247,7 @@ module _ (s : code_setup.Setup) (g : Setup) (serves : Serves s g) (a : Around) (
       chosen_gave at i Server n before after k
       (holds_on at Server n before after k (relays_on at Server n before after k refl refl refl refl) refl (server_moved a l n old.ends h.ends up) refl refl h.no_cut)
       refl (ap (λ m. PassesOn Server m ∷ []) count) (λ t. refl) (ap (λ m. nat_lt m room_limit) (client_waits a l old.ends h.ends) ∙ some_passes u (length (queue_of old.ends.client)) some)
-      (passes_server g (of_client old) (of_server old) l n here h.no_choice more some free within) refl refl (λ x. refl) (ap (λ m. note.Pass c Server m ∷ []) count)
+      (passes_server g (of_client old) (of_server old) l n here h.no_choice more some free within) refl (λ x. refl) (ap (λ m. note.Pass c Server m ∷ []) count)
       refl (sym (quiet_queue (queue_at_server (read_ends Server n old.ends)))) refl
 
   fires_side : (side : Side) (n : ℕ) (before after : List Note) → left → asks_of side old ≡ Stated n → n ≤ length (end_of side old.ends).unread → FiresBytes s c side n old new before after → ActGave g a l c old new (note.Fired c side ∷ []) done.Goes
@@ -274,7 +274,7 @@ module _ (s : code_setup.Setup) (g : Setup) (serves : Serves s g) (a : Around) (
       let of_c : may_relay (ready_of (of_client old)) (has_room l.sent a.took Server) ≡ false = ap (λ m. may_relay (ready_of (of_client old)) (nat_lt m room_limit)) (server_waits a l old.ends h.ends) ∙ client in
       let of_s : may_relay (ready_of (of_server old)) (has_room l.sent a.took Client) ≡ false = ap (λ m. may_relay (ready_of (of_server old)) (nat_lt m room_limit)) (client_waits a l old.ends h.ends) ∙ server in
       let stop : GivesNoMore false l.sent a.took (next_item g l) = subst (λ o. GivesNoMore false l.sent a.took o) (sym waiting) (relay_rests (of_client old) (of_server old) l.sent a.took of_c of_s) in
-      let gave = rests_gave s g serves a l c (round_begun old) new round between_round before after did refl stop (λ o. let x = sym waiting ∙ o in cc) k in
+      let gave = rests_gave s g serves a l c (round_begun old) new round between_round before after did refl stop (ap plain_rest waiting) k in
       record {
         at = gave.at;
         gave = record {
@@ -283,7 +283,6 @@ module _ (s : code_setup.Setup) (g : Setup) (serves : Serves s g) (a : Around) (
           holds = gave.gave.holds;
           client_queue = gave.gave.client_queue;
           servers = gave.gave.servers;
-          kept = gave.gave.kept;
           to_none = gave.gave.to_none;
           edges = gave.gave.edges;
           noted = gave.gave.noted;

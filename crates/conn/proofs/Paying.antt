@@ -1,5 +1,5 @@
 -- What a connection counted stays paid for: as its trace lengthens, by a body's step, and by what else it does.
-use Rattle.std.proofs.Common.{◌≡◌, ◌⊎◌, ◌≤◌, ◌<◌, inl, inr, refl, sym, ap, subst, ◌∙◌, ℕ, ◌+◌, ◌*◌, List, [], ◌∷◌, ◌++◌, append-nil, drop, length, Bool, true, false, true≢false, arith}
+use Rattle.std.proofs.Common.{◌≡◌, ◌⊎◌, ◌≤◌, ◌<◌, inl, inr, refl, sym, ap, subst, ◌∙◌, ℕ, ◌+◌, ◌*◌, List, [], ◌∷◌, ◌++◌, append-nil, drop, length, true, false, true≢false, arith}
 use Rattle.px_bytes.specs.declared.fault.Reply.{Reply}
 use Rattle.core_events.specs.declared.note.Note.{Note}
 use Rattle.conn_trace.specs.Bodies.{run_body}

@@ -1,5 +1,5 @@
 -- What is untaken is what waits.
-use Rattle.std.proofs.Common.{◌≡◌, refl, sym, ap, ◌∙◌, ℕ, ◌+◌, List, [], ◌∷◌, length, Bool, true, false, ◌&&◌, Option, Some, None, is_none, nat_eq, nat_lt, if◌then◌else◌, arith, suc, ne_eqb}
+use Rattle.std.proofs.Common.{◌≡◌, refl, sym, ap, ◌∙◌, ℕ, ◌+◌, List, [], ◌∷◌, length, Bool, true, false, ◌&&◌, is_none, nat_eq, nat_lt, if◌then◌else◌, arith, suc, ne_eqb}
 use Rattle.std.proofs.lemmas.Bool.Decides.{nat_tests}
 use Rattle.seg_buffer.specs.Bytes.{is_empty}
 use Rattle.px_bytes.specs.declared.addr.Side.{Side}
@@ -49,6 +49,7 @@ module _ (a : Around) (l : TraceState) (e : Ends) (h : HoldsEnds a l e) where
       by_link : (k : Link) → is_taken k ≡ true → taken_of (servers_by h.earlier k e.server.reset a.counted_server) (number_by k (length h.earlier)) ≡ taken_by e.server.reset a.counted_server
       by_link link.Up t = last_at h.earlier (taken_by e.server.reset a.counted_server)
       by_link link.GivenUp t = last_at h.earlier (taken_by e.server.reset a.counted_server)
+      by_link (link.Leaving w) t = last_at h.earlier (taken_by e.server.reset a.counted_server)
       by_link link.Absent t = absurd (cc)
       by_link link.Asked t = absurd (cc)
       by_link link.Refused t = absurd (cc)
@@ -65,6 +66,7 @@ module _ (a : Around) (l : TraceState) (e : Ends) (h : HoldsEnds a l e) where
       sent_none link.Made n d = refl
       sent_none link.Up n d = absurd (cc)
       sent_none link.GivenUp n d = absurd (cc)
+      sent_none (link.Leaving w) n d = absurd (cc)
 
       by_stream : (b : Bool) → has_stream e.link ≡ b → length (queue_of e.server) ≡ 0
       by_stream true is = sym (none_waits e.server.reset e.server.queued a.counted_server (h.server_untaken is ∙ sent_none e.link l.sent.server down))
@@ -76,6 +78,7 @@ module _ (a : Around) (l : TraceState) (e : Ends) (h : HoldsEnds a l e) where
       here : (k : Link) → is_taken k ≡ true → (has_stream k ≡ true) × ((n : ℕ) → sent_here k n ≡ n)
       here link.Up t = (refl, λ n. refl)
       here link.GivenUp t = (refl, λ n. refl)
+      here (link.Leaving w) t = (refl, λ n. refl)
       here link.Absent t = absurd (cc)
       here link.Asked t = absurd (cc)
       here link.Refused t = absurd (cc)
@@ -98,6 +101,7 @@ module _ (a : Around) (l : TraceState) (e : Ends) (h : HoldsEnds a l e) where
       by_link : (k : Link) → is_up k ≡ true → nat_eq (number_by k (length h.earlier)) 0 ≡ false
       by_link link.Up t = ne_eqb (suc (length h.earlier)) 0 (λ z. absurd (omega (arith, z)))
       by_link link.GivenUp t = absurd (cc)
+      by_link (link.Leaving w) t = absurd (cc)
       by_link link.Absent t = absurd (cc)
       by_link link.Asked t = absurd (cc)
       by_link link.Refused t = absurd (cc)

@@ -4,7 +4,7 @@ use Rattle.std.specs.Option.{is_some}
 use Rattle.std.specs.Bool.{MatchBool}
 use Rattle.std.specs.Prelude.{option_and_then, option_map, slice_get}
 use Rattle.std.proofs.lemmas.Bool.Decides.{nat_tests}
-use Rattle.px_bytes.specs.declared.addr.Side.TheVariants.{Client}
+use Rattle.px_bytes.specs.declared.addr.Side.TheVariants.{Client, Server}
 use Rattle.px_bytes.specs.declared.fault.Reply.{Reply}
 use Rattle.tcl_trees.specs.Tree.{Tree}
 use Rattle.tcl_vars.specs.Scopes.{Scopes}
@@ -26,10 +26,10 @@ use Rattle.conn_trace.specs.Host.{HostState, body_setting, http_of}
 use Rattle.conn_trace.specs.Http.{wanted_more}
 use Rattle.conn_trace.specs.Item.{Unselected}
 use Rattle.conn_trace.specs.Places as model
-use Rattle.conn_trace.specs.Routing.{behind_accept, behind_accepted, behind_answer, behind_connect, behind_connected, behind_failed, behind_request, behind_told, gathering, routed}
-use Rattle.conn_trace.specs.Places.{Place, place, at as put, after_event, begun, behind_data, bodies_left, closed, closed_client, closed_server, connecting, enter, entered, http_begun, next_body}
+use Rattle.conn_trace.specs.Routing.{behind_accept, behind_accepted, behind_answer, behind_connect, behind_connected, behind_failed, behind_request, behind_response, behind_told, gathering, is_left, routed}
+use Rattle.conn_trace.specs.Places.{Place, place, at as put, after_event, after_server, begun, giving_up, behind_data, bodies_left, closed, closed_client, closed_server, connecting, enter, entered, http_begun, next_body}
 use Rattle.conn_trace.specs.Setup.{Handler, Setup}
-use Rattle.conn_trace.specs.State.{Absent, Choosing, Collecting, Finishing, Gated, Relaying, Running, InEvent, Phase, Stream, TraceState, link_of}
+use Rattle.conn_trace.specs.State.{Absent, AtReuse, BeforeSelect, Choosing, Collecting, Finishing, Gated, GivingUp, Heading, Relaying, Running, InEvent, Phase, TraceState, link_of}
 use Rattle.conn_trace.specs.State.{Link as ModelLink}
 use Rattle.conn_trace.specs.State as state
 use Rattle.frames.specs.Frames.{full_room, meaning, comes_to}
@@ -37,14 +37,15 @@ use Rattle.frames.specs.declared.frame.Frame.{Frame}
 use Rattle.frames.specs.declared.frame.Mode.{Mode}
 use Rattle.frames.specs.declared.frame.Mode.TheVariants as mode
 use Rattle.frames.specs.declared.frame.Standing.{Standing}
-use Rattle.conn.specs.Changes.{Begins, ClosesClient, ClosesServer, Closes as ClosesAll, Enters, GoesTo, Leaves, NextBody, StartsBody, left_stage}
-use Rattle.conn.specs.Ends.{is_sought, is_up, link_by, server_by}
-use Rattle.conn.specs.Events.{event_of, is_closed}
+use Rattle.conn.specs.Changes.{Begins, ClosesClient, ClosesServer, Closes as ClosesAll, Enters, GoesTo, Leaves, LeavesServer, NextBody, StartsBody, left_stage}
+use Rattle.conn.specs.Ends.{behind_of, is_leaving, is_sought, is_up, link_by, server_by}
+use Rattle.conn.specs.Events.{event_of, is_closed, is_closing}
 use Rattle.conn.specs.Holds.{Around, Between, BodyGoesOn, GatedBefore, HoldsEnds, RunsFirst, Stands}
 use Rattle.conn.specs.Hosts.{Told, begun_host, seen_host}
 use Rattle.conn.specs.Setups.{body_at, body_in, places_at, Serves}
-use Rattle.conn.specs.Stages.{InEvent as HostIn, accepted_stage, after_stage, at_fits, collect_stage, connected_stage, connecting_stage, data_stage, entered_by, failed_stage, fits, gathering_stage, has_finished, is_asking, request_stage, unless_ended}
+use Rattle.conn.specs.Stages.{InEvent as HostIn, accepted_stage, after_stage, at_fits, collect_stage, connected_stage, connecting_stage, data_stage, entered_by, failed_stage, fits, gathering_stage, has_finished, is_asking, leaving_stage, loose_stage, request_stage, response_stage, routed_stage, unless_ended}
 use Rattle.conn.specs.declared.connection.Conn.{Conn}
+use Rattle.conn.specs.declared.ends.Behind.{Behind}
 use Rattle.conn.specs.declared.ends.End.{End}
 use Rattle.conn.specs.declared.ends.Ends.{Ends}
 use Rattle.conn.specs.declared.ends.Link.{Link}
@@ -57,7 +58,7 @@ use Rattle.conn.specs.declared.setup.Setup as code_setup
 use Rattle.conn.specs.declared.stage.Finish.TheVariants as finish
 use Rattle.conn.specs.declared.stage.Stage.{Stage}
 use Rattle.conn.specs.declared.stage.Stage.TheVariants as stage
-use Rattle.conn.proofs.Fitting.{after_fits, after_plain}
+use Rattle.conn.proofs.Fitting.{after_fits, after_plain, still_open}
 
 -- an item that is found stands within a list
 some_within : {A : Type 0} (xs : List A) (n : ℕ) (x : A) → slice_get xs n ≡ Some x → n < length xs
@@ -129,45 +130,32 @@ pub same_told : (g : Setup) (old new : Conn) → new.host ≡ old.host → new.e
 same_told g old new host ends k = subst (λ e. Told g e.link new.host) (sym ends) (subst (λ h. Told g old.ends.link h) (sym host) k)
 
 -- what they are told that no event changes
-pub record Known (g : Setup) (k : Link) (h : RuleHost) : Type 0 where
+pub record Known (g : Setup) (h : RuleHost) : Type 0 where
   pub from : h.net.from ≡ g.from
   pub spoken : is_some h.http ≡ g.http
-  pub alone : g.http ≡ true → k ≡ link.Absent
 
-pub known : (g : Setup) (k : Link) (h : RuleHost) → Told g k h → Known g k h
-known g k h t = record { from = t.from; spoken = t.spoken; alone = t.alone }
+pub known : (g : Setup) (k : Link) (h : RuleHost) → Told g k h → Known g h
+known g k h t = record { from = t.from; spoken = t.spoken }
 
-pub told_of : (g : Setup) (k : Link) (h : RuleHost) → Known g k h → (h.net.relays ≡ true → is_up k ≡ true) → Told g k h
-told_of g k h t relays = record { from = t.from; relays = relays; spoken = t.spoken; alone = t.alone }
+pub told_of : (g : Setup) (k : Link) (h : RuleHost) → Known g h → (h.net.relays ≡ true → is_up k ≡ true) → Told g k h
+told_of g k h t relays = record { from = t.from; relays = relays; spoken = t.spoken }
 
--- of a host with the same client, that knows as much of a request, and the same link
-pub known_same : (g : Setup) (k m : Link) (h i : RuleHost) → i.net.from ≡ h.net.from → is_some i.http ≡ is_some h.http → m ≡ k → Known g k h → Known g m i
-known_same g k m h i from http link t = record { from = from ∙ t.from; spoken = http ∙ t.spoken; alone = λ e. link ∙ t.alone e }
+-- of a host with the same client, that knows as much of a request
+pub known_same : (g : Setup) (h i : RuleHost) → i.net.from ≡ h.net.from → is_some i.http ≡ is_some h.http → Known g h → Known g i
+known_same g h i from http t = record { from = from ∙ t.from; spoken = http ∙ t.spoken }
 
 -- of the same host and link
 pub told_kept : (g : Setup) (old new : Conn) → new.host ≡ old.host → new.ends.link ≡ old.ends.link → Told g old.ends.link old.host → Told g new.ends.link new.host
 told_kept g old new host link k = subst (λ m. Told g m new.host) (sym link) (subst (λ h. Told g old.ends.link h) (sym host) k)
 
--- with a server connection no HTTP is spoken
-pub is_plain : (g : Setup) (k : Link) (h : RuleHost) → Known g k h → (k ≡ link.Absent → ⊥) → h.http ≡ None
-is_plain g k h t there = by_http h.http (t.spoken ∙ by_flag g.http refl)
-  where
-    by_flag : (b : Bool) → g.http ≡ b → g.http ≡ false
-    by_flag true e = absurd (there (t.alone e))
-    by_flag false e = e
-
-    by_http : (o : Option Http) → is_some o ≡ false → o ≡ None
-    by_http None e = refl
-    by_http (Some http) e = absurd (true≢false e)
-
 -- where an event begins they are told whether there is a server connection
-still_some : {A : Type 0} (f : A → A) (o : Option A) → is_some (option_map f o) ≡ is_some o
+pub still_some : {A : Type 0} (f : A → A) (o : Option A) → is_some (option_map f o) ≡ is_some o
 still_some f None = refl
 still_some f (Some a) = refl
 
-pub begun_told : (g : Setup) (at : At) (k : Link) (old new : RuleHost) → new ≡ begun_host at (is_up k) old → Known g k old → Told g k new
+pub begun_told : (g : Setup) (at : At) (k : Link) (old new : RuleHost) → new ≡ begun_host at (is_up k) old → Known g old → Told g k new
 begun_told g at k old new is t =
-    subst (λ h. Told g k h) (sym is) (record { from = t.from; relays = λ e. e; spoken = still_some (http_begun old.net) old.http ∙ t.spoken; alone = t.alone })
+    subst (λ h. Told g k h) (sym is) (record { from = t.from; relays = λ e. e; spoken = still_some (http_begun old.net) old.http ∙ t.spoken })
 
 begins_told : (g : Setup) (at : At) (old mid : Conn) → Begins at old mid → Told g old.ends.link old.host → Told g mid.ends.link mid.host
 begins_told g at old mid k told = subst (λ e. Told g e.link mid.host) (sym k.ends) (begun_told g at old.ends.link old.host mid.host k.host (known g old.ends.link old.host told))
@@ -179,6 +167,7 @@ up_is link.Refused = refl
 up_is link.Made = refl
 up_is link.Up = refl
 up_is link.GivenUp = refl
+up_is (link.Leaving w) = refl
 
 link_side : (k : Link) (e : End) → link_of (server_by k e) ≡ link_by k
 link_side link.Absent e = refl
@@ -187,6 +176,7 @@ link_side link.Refused e = refl
 link_side link.Made e = refl
 link_side link.Up e = refl
 link_side link.GivenUp e = refl
+link_side (link.Leaving w) e = refl
 
 -- the link is that of the trace
 pub link_is : (a : Around) (l : TraceState) (e : Ends) → HoldsEnds a l e → link_of l.server ≡ link_by e.link
@@ -213,8 +203,8 @@ closed_again g k h = ap (λ x. bodies_left ServerClosed (g.handlers ServerClosed
 
 module _ (g : Setup) (l : TraceState) where
   -- behind an event that is entered again by no other
-  after_stands : (at : At) (fin : Bool) (k : Link) (new : Conn) → (at ≡ event.ServerClosed → ⊥) → From g l new → Known g k new.host → at_fits at k ≡ true → Stands g (after_stage at k new.host) (put (after_event g (event_of at) fin (link_by k) (seen_host new.host)) l) new
-  after_stands at fin k new plain f known fit = by_event at plain fit
+  after_stands : (at : At) (fin : Bool) (k : Link) (new : Conn) → (at ≡ event.ServerClosed → ⊥) → From g l new → at_fits at k ≡ true → fin ≡ is_closed at → Stands g (after_stage at k new.host) (put (after_event g (event_of at) fin (link_by k) (seen_host new.host)) l) new
+  after_stands at fin k new plain f fit is = by_event at plain fit is
     where
       here : Phase → TraceState
       here p = record l { phase = p; host = seen_host new.host }
@@ -247,30 +237,55 @@ module _ (g : Setup) (l : TraceState) where
       by_accept true = (refl, between _)
       by_accept false = by_asks (seen_host new.host).net.client.asks
 
-      -- where a request goes while no server is there
-      by_wanted : (m : ModelLink) → routed m (seen_host new.host) ≡ Choosing → (n : ℕ) → Stands g (gathering_stage n (http_of (seen_host new.host))) (here (gathering Client n (seen_host new.host) (routed m (seen_host new.host)))) new
-      by_wanted m down zero = (down, between _)
-      by_wanted m down (suc n) = (refl, between _)
+      -- where a request goes
+      by_left : (b : Bool) → Stands g (routed_stage true b) (here (if b then GivingUp BeforeSelect else AtReuse)) new
+      by_left true = (refl, between _)
+      by_left false = (refl, between _)
 
-      by_expects : (m : ModelLink) → routed m (seen_host new.host) ≡ Choosing → (expects : Bool) → Stands g (request_stage None expects (http_of (seen_host new.host))) (here (behind_told expects m (seen_host new.host))) new
-      by_expects m down true = (refl, between _)
-      by_expects m down false = by_wanted m down (wanted_more (http_of (seen_host new.host)))
+      by_routed : (x : Link) → Stands g (routed_stage (is_up x) (is_left (seen_host new.host))) (here (routed (link_by x) (seen_host new.host))) new
+      by_routed link.Absent = (refl, between _)
+      by_routed link.GivenUp = (refl, between _)
+      by_routed (link.Leaving w) = (refl, between _)
+      by_routed link.Asked = (refl, between _)
+      by_routed link.Refused = (refl, between _)
+      by_routed link.Made = (refl, between _)
+      by_routed link.Up = by_left (is_left (seen_host new.host))
 
-      by_answered : (closing expects : Bool) → Stands g (request_stage (Some closing) expects (http_of (seen_host new.host))) (here (behind_answer expects (seen_host new.host))) new
-      by_answered closing true = (refl, between _)
-      by_answered closing false = (refl, between _)
+      by_wanted : (x : Link) (n : ℕ) → Stands g (gathering_stage Client n (http_of (seen_host new.host)) (routed_stage (is_up x) (is_left (seen_host new.host)))) (here (gathering Client n (seen_host new.host) (routed (link_by x) (seen_host new.host)))) new
+      by_wanted x zero = by_routed x
+      by_wanted x (suc n) = (refl, between _)
 
-      by_answer : (m : ModelLink) → routed m (seen_host new.host) ≡ Choosing → (o : Option Bool) → Stands g (request_stage o (expects_by (http_of (seen_host new.host)).came) (http_of (seen_host new.host))) (here (behind_request o m (seen_host new.host))) new
-      by_answer m down (Some closing) = by_answered closing (expects_by (http_of (seen_host new.host)).came)
-      by_answer m down None = by_expects m down (expects_by (http_of (seen_host new.host)).came)
+      by_expects : (x : Link) (expects : Bool) → Stands g (request_stage None expects x new.host) (here (behind_told expects (link_by x) (seen_host new.host))) new
+      by_expects x true = (refl, between _)
+      by_expects x false = by_wanted x (wanted_more (http_of (seen_host new.host)))
 
-      by_request : (x : Link) → not (is_sought x) ≡ true → Stands g (request_stage (http_of (seen_host new.host)).answer (expects_by (http_of (seen_host new.host)).came) (http_of (seen_host new.host))) (here (behind_request (http_of (seen_host new.host)).answer (link_by x) (seen_host new.host))) new
-      by_request link.Absent e = by_answer state.Absent refl (http_of (seen_host new.host)).answer
-      by_request link.GivenUp e = by_answer state.GivenUp refl (http_of (seen_host new.host)).answer
-      by_request link.Asked e = absurd (true≢false (sym e))
-      by_request link.Refused e = absurd (true≢false (sym e))
-      by_request link.Made e = absurd (true≢false (sym e))
-      by_request link.Up e = absurd (true≢false (sym e))
+      by_answered : (x : Link) (closing expects : Bool) → Stands g (request_stage (Some closing) expects x new.host) (here (behind_answer expects (seen_host new.host))) new
+      by_answered x closing true = (refl, between _)
+      by_answered x closing false = (refl, between _)
+
+      by_request : (x : Link) (o : Option Bool) → Stands g (request_stage o (expects_by (http_of (seen_host new.host)).came) x new.host) (here (behind_request o (link_by x) (seen_host new.host))) new
+      by_request x (Some closing) = by_answered x closing (expects_by (http_of (seen_host new.host)).came)
+      by_request x None = by_expects x (expects_by (http_of (seen_host new.host)).came)
+
+      -- and a response
+      by_gathered : (n : ℕ) → Stands g (gathering_stage Server n (http_of (seen_host new.host)) (stage.Heading Server)) (here (gathering Server n (seen_host new.host) (Heading Server))) new
+      by_gathered zero = (refl, between _)
+      by_gathered (suc n) = (refl, between _)
+
+      by_response : (o : Option Bool) → Stands g (response_stage o (http_of (seen_host new.host))) (here (behind_response o (seen_host new.host))) new
+      by_response (Some closing) = (refl, between _)
+      by_response None = by_gathered (wanted_more (http_of (seen_host new.host)))
+
+      -- behind the closing event of a server connection that is given up
+      by_leaving : (x : Link) → is_leaving x ≡ true → (b : Bool) → b ≡ false → Stands g (leaving_stage x) (put (after_server g b (link_by x) (seen_host new.host)) l) new
+      by_leaving (link.Leaving w) fit true e = absurd (true≢false e)
+      by_leaving (link.Leaving w) fit false e = (refl, between _)
+      by_leaving link.Absent fit b e = absurd (true≢false (sym fit))
+      by_leaving link.GivenUp fit b e = absurd (true≢false (sym fit))
+      by_leaving link.Asked fit b e = absurd (true≢false (sym fit))
+      by_leaving link.Refused fit b e = absurd (true≢false (sym fit))
+      by_leaving link.Made fit b e = absurd (true≢false (sym fit))
+      by_leaving link.Up fit b e = absurd (true≢false (sym fit))
 
       by_release : (b : Bool) → Stands g (data_stage false b) (here (if b then Choosing else Collecting)) new
       by_release true = (refl, between _)
@@ -282,29 +297,29 @@ module _ (g : Setup) (l : TraceState) where
       by_link link.Refused b = by_release b
       by_link link.Made b = by_release b
       by_link link.GivenUp b = by_release b
+      by_link (link.Leaving w) b = by_release b
       by_link link.Up b = (refl, between _)
 
-      by_loose : (bytes : List ℕ) → Stands g (connected_stage bytes) (here (behind_connected bytes)) new
+      by_loose : (bytes : List ℕ) → Stands g (loose_stage bytes) (here (behind_connected bytes)) new
       by_loose [] = (refl, between _)
       by_loose (b ∷ bs) = (refl, between _)
 
-      by_connect : (http : Bool) → http ≡ false → Stands g (connected_stage (seen_host new.host).net.loose) (here (behind_connect http (seen_host new.host))) new
-      by_connect true e = absurd (true≢false e)
-      by_connect false e = by_loose (seen_host new.host).net.loose
+      by_connect : (http : Bool) → Stands g (connected_stage http (seen_host new.host).net.loose) (here (behind_connect http (seen_host new.host))) new
+      by_connect true = (refl, between _)
+      by_connect false = by_loose (seen_host new.host).net.loose
 
-      plain_up : at_fits event.Connected k ≡ true → is_some new.host.http ≡ false
-      plain_up up = ap is_some (is_plain g k new.host known (λ e. true≢false (sym up ∙ ap is_up e)))
-
-      by_event : (at : At) → (at ≡ event.ServerClosed → ⊥) → at_fits at k ≡ true → Stands g (after_stage at k new.host) (put (after_event g (event_of at) fin (link_by k) (seen_host new.host)) l) new
-      by_event event.Accepted p fit = by_end new.host.net.wishes.ends _ _ (by_accept (is_some new.host.http))
-      by_event event.ClientData p fit = by_end new.host.net.wishes.ends (data_stage (is_up k) new.host.net.wishes.released) (behind_data (link_by k) new.host.net.wishes.released) (by_link k new.host.net.wishes.released)
-      by_event event.Selected p fit = by_end new.host.net.wishes.ends (connecting_stage new.host.net.selected) (connecting new.host.net.selected) (by_server new.host.net.selected)
-      by_event event.Failed p fit = by_end new.host.net.wishes.ends _ _ (by_failed (http_of (seen_host new.host)).answer)
-      by_event event.Connected p fit = by_end new.host.net.wishes.ends _ _ (by_connect (is_some new.host.http) (plain_up fit))
-      by_event event.Request p fit = by_end new.host.net.wishes.ends _ _ (by_request k fit)
-      by_event event.ServerData p fit = by_end new.host.net.wishes.ends (stage.Relaying Client) Relaying (refl, between _)
-      by_event event.ServerClosed p fit = absurd (p refl)
-      by_event event.Closed p fit = (refl, between _)
+      by_event : (at : At) → (at ≡ event.ServerClosed → ⊥) → at_fits at k ≡ true → fin ≡ is_closed at → Stands g (after_stage at k new.host) (put (after_event g (event_of at) fin (link_by k) (seen_host new.host)) l) new
+      by_event event.Accepted p fit is = by_end new.host.net.wishes.ends _ _ (by_accept (is_some new.host.http))
+      by_event event.ClientData p fit is = by_end new.host.net.wishes.ends (data_stage (is_up k) new.host.net.wishes.released) (behind_data (link_by k) new.host.net.wishes.released) (by_link k new.host.net.wishes.released)
+      by_event event.Selected p fit is = by_end new.host.net.wishes.ends (connecting_stage new.host.net.selected) (connecting new.host.net.selected) (by_server new.host.net.selected)
+      by_event event.Failed p fit is = by_end new.host.net.wishes.ends _ _ (by_failed (http_of (seen_host new.host)).answer)
+      by_event event.Connected p fit is = by_end new.host.net.wishes.ends _ _ (by_connect (is_some new.host.http))
+      by_event event.Request p fit is = by_end new.host.net.wishes.ends _ _ (by_request k (http_of (seen_host new.host)).answer)
+      by_event event.Response p fit is = by_end new.host.net.wishes.ends _ _ (by_response (http_of (seen_host new.host)).answer)
+      by_event event.Leaving p fit is = by_leaving k fit fin is
+      by_event event.ServerData p fit is = by_end new.host.net.wishes.ends (stage.Relaying Client) Relaying (refl, between _)
+      by_event event.ServerClosed p fit is = absurd (p refl)
+      by_event event.Closed p fit is = (refl, between _)
 
   goes_gone : (at : At) (fin : Bool) (mid new : Conn) → (at ≡ event.ServerClosed → ⊥) → GoesTo (left_stage at mid) mid new → From g l mid → at_fits at mid.ends.link ≡ true → fin ≡ is_closed at
       → GoneTo g fin (after_event g (event_of at) fin (link_by mid.ends.link) (seen_host mid.host)) l mid.ends new
@@ -314,7 +329,7 @@ module _ (g : Setup) (l : TraceState) where
       let f' : From g l new = record { vars = f.vars ∙ sym c.vars; replies = f.replies; told = same_told g mid new c.host c.ends f.told } in
       let S : Stage → RuleHost → Type 0 = λ st h. Stands g st (put (after_event g (event_of at) fin (link_by k) (seen_host h)) l) new in
       record {
-        stands = subst (λ st. S st mid.host) (sym c.there) (subst (λ h. S (after_stage at k h) h) c.host (after_stands at fin k new plain f' (subst (λ h. Known g k h) (sym c.host) (known g k mid.host f.told)) fit));
+        stands = subst (λ st. S st mid.host) (sym c.there) (subst (λ h. S (after_stage at k h) h) c.host (after_stands at fin k new plain f' fit is));
         finished = is ∙ p.finished ∙ ap has_finished (sym c.there);
         fits = ap (λ st. fits st new.ends.link) c.there ∙ ap (λ e. fits (left_stage at mid) e.link) c.ends ∙ after_fits at mid.host k fit;
         told = f'.told;
@@ -393,6 +408,8 @@ module _ (g : Setup) (l : TraceState) where
     leaves_gone event.Failed fin mid new k f fit is = goes_gone event.Failed fin mid new (λ e. cc) k f fit is
     leaves_gone event.Connected fin mid new k f fit is = goes_gone event.Connected fin mid new (λ e. cc) k f fit is
     leaves_gone event.Request fin mid new k f fit is = goes_gone event.Request fin mid new (λ e. cc) k f fit is
+    leaves_gone event.Response fin mid new k f fit is = goes_gone event.Response fin mid new (λ e. cc) k f fit is
+    leaves_gone event.Leaving fin mid new k f fit is = goes_gone event.Leaving fin mid new (λ e. cc) k f fit is
     leaves_gone event.ServerData fin mid new k f fit is = goes_gone event.ServerData fin mid new (λ e. cc) k f fit is
     leaves_gone event.ServerClosed fin mid new k f fit is = subst (λ b. GoneTo g b (after_event g (event_of event.ServerClosed) b (link_by mid.ends.link) (seen_host mid.host)) l mid.ends new) (sym is) (client_gone mid new k f)
     leaves_gone event.Closed fin mid new k f fit is = goes_gone event.Closed fin mid new (λ e. cc) k f fit is
@@ -420,13 +437,23 @@ module _ (g : Setup) (l : TraceState) where
         by_link : (x : Link) → old.ends.link ≡ x → MatchBool (is_sought x) (ClosesServer s old new) (ClosesClient s old new) → GoneTo g true (closed g (link_by x) (seen_host old.host)) l old.ends new
         by_link link.Absent is c = subst (λ x. GoneTo g true (closed_client g (link_by x) (seen_host old.host)) l old.ends new) is (client_gone old new c f)
         by_link link.GivenUp is c = subst (λ x. GoneTo g true (closed_client g (link_by x) (seen_host old.host)) l old.ends new) is (client_gone old new c f)
+        by_link (link.Leaving w) is c = subst (λ x. GoneTo g true (closed_client g (link_by x) (seen_host old.host)) l old.ends new) is (client_gone old new c f)
         by_link link.Asked is c = subst (λ x. GoneTo g true (closed_server g (link_by x) (seen_host old.host)) l old.ends new) is (server_gone old new c f)
         by_link link.Refused is c = subst (λ x. GoneTo g true (closed_server g (link_by x) (seen_host old.host)) l old.ends new) is (server_gone old new c f)
         by_link link.Made is c = subst (λ x. GoneTo g true (closed_server g (link_by x) (seen_host old.host)) l old.ends new) is (server_gone old new c f)
         by_link link.Up is c = subst (λ x. GoneTo g true (closed_server g (link_by x) (seen_host old.host)) l old.ends new) is (server_gone old new c f)
 
+    -- the closing event of a server connection comes that is given up
+    pub leaving_gone : (w : Behind) (old new : Conn) → LeavesServer s w old new → From g l old → GoneTo g false (giving_up g (behind_of w) (seen_host old.host)) l (record old.ends { link = link.Leaving w }) new
+    leaving_gone w old new k f =
+        let mid = k.mid in
+        let f' : From g l mid = record { vars = f.vars ∙ sym k.vars; replies = f.replies; told = subst (λ e. Told g e.link mid.host) (sym k.ends) (begun_told g event.Leaving (link.Leaving w) old.host mid.host k.host (known g old.ends.link old.host f.told)) } in
+        let gone = next_gone event.Leaving 0 false mid new k.goes f' (ap (λ h. event_of h.event) k.host) (ap (λ e. is_leaving e.link) k.ends) refl in
+        let on = subst (λ e. GoneTo g false (next_body g ServerClosed false (link_by e.link) (g.handlers ServerClosed) (seen_host mid.host)) l e new) k.ends gone in
+        subst (λ h. GoneTo g false (next_body g ServerClosed false (link_by (link.Leaving w)) (g.handlers ServerClosed) h) l (record old.ends { link = link.Leaving w }) new) (begun_is event.Leaving (link.Leaving w) old.host mid.host k.host) on
+
     -- an event is entered
-    pub enters_gone : (at : At) (host : RuleHost) (ends : Ends) (old new : Conn) → Enters s at host ends old new → l.vars ≡ old.vars → l.answers.replies ≡ [] → Known g ends.link host → at_fits at ends.link ≡ true → is_closed at ≡ false → (at ≡ event.ServerClosed → ⊥)
+    pub enters_gone : (at : At) (host : RuleHost) (ends : Ends) (old new : Conn) → Enters s at host ends old new → l.vars ≡ old.vars → l.answers.replies ≡ [] → Known g host → at_fits at ends.link ≡ true → is_closing at ≡ false → (at ≡ event.ServerClosed → ⊥)
         → GoneTo g false (enter g (event_of at) (link_by ends.link) (seen_host host)) l ends new
     enters_gone at host ends old new k vars replies known fit not_closing plain =
         let e = event_of at in
@@ -440,7 +467,7 @@ module _ (g : Setup) (l : TraceState) where
         by_bodies f [] [] e p n =
             let there : new.stage ≡ left_stage at new = k.there ∙ ap (entered_by at ends.link new.host) p ∙ ap (λ x. after_stage at x.link new.host) (sym k.ends) in
             subst (λ x. GoneTo g false (after_event g (event_of at) false (link_by x.link) (seen_host new.host)) l x new) k.ends
-            (goes_gone at false new new plain (record { there = there; vars = refl; host = refl; ends = refl }) f (ap (λ x. at_fits at x.link) k.ends ∙ fit) (sym not_closing))
+            (goes_gone at false new new plain (record { there = there; vars = refl; host = refl; ends = refl }) f (ap (λ x. at_fits at x.link) k.ends ∙ fit) (sym (still_open at not_closing)))
         by_bodies f [] (p ∷ ps) e q n = absurd (omega (arith, n))
         by_bodies f (h ∷ hs) [] e q n = absurd (omega (arith, n))
         by_bodies f (h ∷ hs) (p ∷ ps) e q n =

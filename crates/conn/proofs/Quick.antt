@@ -1,5 +1,5 @@
 -- What a command of today does: it leaves each collect but that of its own side as it was, and has one effect at most; it sends to the server only where there is one; one that asks a shared call has none.
-use Rattle.std.proofs.Common.{◌≡◌, ◌⊎◌, inl, inr, refl, sym, ap, ◌∙◌, subst, true≢false, ℕ, List, [], ◌∷◌, length, Bool, true, false, Option, Some, None, Result, Ok, Err, ℤ, codes, not, ◌&&◌, ◌+◌, ◌++◌, ◌==◌, nat_lt, if◌then◌else◌}
+use Rattle.std.proofs.Common.{◌≡◌, inl, inr, refl, sym, ap, ◌∙◌, subst, true≢false, ℕ, List, [], ◌∷◌, length, Bool, true, false, Option, Some, None, Result, Ok, Err, ℤ, codes, not, ◌&&◌, ◌+◌, ◌++◌, ◌==◌, nat_lt, if◌then◌else◌}
 use Rattle.std.specs.Option.{is_some}
 use Rattle.std.specs.List.{list_any}
 use Rattle.std.specs.Str.{bytes_eq}
@@ -277,6 +277,9 @@ module _ (groups : Groups) (event : EventName) (s : NetState) (words : List (Lis
   ends_quick : (ending : Ending) → Quick event s (Gives [] (ends ending s) [])
   ends_quick ending = (beside event s _ refl refl refl refl, tt)
 
+  detaches_quick : Quick event s (Gives [] (record s { wishes = record s.wishes { detaches = true } }) [])
+  detaches_quick = (beside event s _ refl refl refl refl, tt)
+
   reselects_quick : (target : Target) → Quick event s (reselects target s)
   reselects_quick target = either_quick event s (nat_lt s.reselects reselect_limit) _ _ (beside event s _ refl refl refl refl, tt) (keeps_all event s, tt)
 
@@ -395,6 +398,7 @@ module _ (groups : Groups) (event : EventName) (s : NetState) (words : List (Lis
   command_quick command.Pool there = fitting P _ (allowed command.Pool) _ _ _ _ pool_quick bad
   command_quick command.Node there = fitting P _ (allowed command.Node) _ _ _ _ node_quick bad
   command_quick command.LbReselect there = reselect_quick words
+  command_quick command.LbDetach there = fitting P _ (allowed command.LbDetach) _ _ _ _ (does detaches_quick) bad
   command_quick command.Reject there = fitting P _ (allowed command.Reject) _ _ _ _ (does (ends_quick Rejects)) bad
   command_quick command.Drop there = fitting P _ (allowed command.Drop) _ _ _ _ (does (ends_quick Rejects)) bad
   command_quick command.TcpClose there = fitting P _ (allowed command.TcpClose) _ _ _ _ (does (ends_quick Closes)) bad

@@ -79,7 +79,7 @@ module _ (s : code_setup.Setup) (g : Setup) (serves : Serves s g) (a : Around) (
         by_test : (x : Bool) → is_answered Client f ≡ x → RefusesBy x f s c old new before after did → ActGave g a l c old new (refused_by x f c) did
         by_test true is (goes, k, none) = subst (λ d. ActGave g a l c old new [] d) (sym goes) (record {
           at = at;
-          gave = gave_bytes g a l at c old new (Sent ToClient (refusal f)) (refusal f) h.no_cut (record { calls = refl; note = refl; client = refl; kept = refl; to_none = refl; opens = λ c s t. refl; along = quiet_queue; takes = (refl, λ t. refl) }) (answers is) refl (holds k) k.ends (λ e. e);
+          gave = gave_bytes g a l at c old new (Sent ToClient (refusal f)) (refusal f) h.no_cut (record { calls = refl; note = refl; client = refl; to_none = refl; opens = λ c s t. refl; along = quiet_queue; takes = (refl, λ t. refl) }) (answers is) refl (holds k) k.ends (λ e. e);
           stops = ap is_asking k.there;
         })
         by_test false is (goes, k) = subst (λ d. ActGave g a l c old new (refused_by false f c) d) (sym goes)

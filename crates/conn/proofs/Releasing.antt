@@ -1,5 +1,5 @@
 -- The client's bytes that were released before there was a server go to it.
-use Rattle.std.proofs.Common.{◌≡◌, refl, sym, ap, subst, ◌∙◌, ℕ, ◌+◌, List, [], ◌∷◌, ◌++◌, append-nil, length, length-append, Bool, true, false, true≢false, nat_lt, arith, if◌then◌else◌, eq-eqb}
+use Rattle.std.proofs.Common.{◌≡◌, refl, sym, ap, subst, ◌∙◌, ℕ, ◌+◌, List, [], ◌∷◌, ◌++◌, append-nil, length, length-append, Bool, true, false, true≢false, nat_lt, arith, if◌then◌else◌}
 use Rattle.std.specs.Option.{is_some}
 use Rattle.std.specs.Bool.{MatchBool}
 use Rattle.px_bytes.specs.declared.addr.Side.TheVariants.{Client, Server}
@@ -26,7 +26,7 @@ use Rattle.conn.specs.declared.setup.Setup as code_setup
 use Rattle.conn.specs.declared.stage.Stage.TheVariants as stage
 use Rattle.conn.specs.declared.turn.Act as step_act
 use Rattle.conn.specs.declared.turn.Act.TheVariants as done
-use Rattle.conn.proofs.Acting.{ActGave, rest_noted, rests_gave}
+use Rattle.conn.proofs.Acting.{ActGave, rest_noted, rests_gave, plain_rest}
 use Rattle.conn.proofs.Gating.{gate_group, stands_in}
 use Rattle.conn.proofs.Joining.{passes_one}
 use Rattle.conn.proofs.Passing.{up_is}
@@ -93,7 +93,7 @@ module _ (s : code_setup.Setup) (g : Setup) (serves : Serves s g) (a : Around) (
     finished = going ∙ ap has_finished (sym k.there);
     fits = ap (λ x. fits x new.ends.link) k.there ∙ ap (λ e. is_up e.link) k.ends ∙ ap is_up up;
     event = subst (λ x. HostIn x new.host.event) (sym k.there) tt;
-    told = told_of g new.ends.link new.host (known_same g old.ends.link new.ends.link old.host new.host (ap (λ x. x.net.from) k.host) (ap (λ x. is_some x.http) k.host) (ap (λ e. e.link) k.ends) (known g old.ends.link old.host h.told)) (λ r. ap (λ e. is_up e.link) k.ends ∙ ap is_up up);
+    told = told_of g new.ends.link new.host (known_same g old.host new.host (ap (λ x. x.net.from) k.host) (ap (λ x. is_some x.http) k.host) (known g old.ends.link old.host h.told)) (λ r. ap (λ e. is_up e.link) k.ends ∙ ap is_up up);
     ends = subst (λ e. HoldsEnds a at e) (sym k.ends) (released_ends a l (seen_host (released_host old.host)) loose old.ends h.ends up);
     no_choice = h.no_choice;
     no_cut = h.no_cut;
@@ -110,7 +110,6 @@ module _ (s : code_setup.Setup) (g : Setup) (serves : Serves s g) (a : Around) (
           holds = holds k;
           client_queue = ap (λ e. e.client.queued) k.ends ∙ sym (append-nil old.ends.client.queued);
           servers = ap queue_at_server k.ends;
-          kept = refl;
           to_none = ap (λ b. (if b then loose else []) ++ []) (up_number a l old.ends h.ends (ap is_up up));
           edges = ap (λ e. e.edges) k.ends;
           noted = refl;
@@ -129,4 +128,4 @@ module _ (s : code_setup.Setup) (g : Setup) (serves : Serves s g) (a : Around) (
       by_test true room (goes, k, none) = subst (λ d. ActGave g a l c old new [] d) (sym goes) (passes room k)
       by_test false room k =
           let shut : GivesNoMore false l.sent a.took (next_item g l) = subst (λ o. GivesNoMore false l.sent a.took o) (sym step) (ap (λ m. nat_lt m room_limit) (server_waits a l old.ends h.ends) ∙ room) in
-          rests_gave s g serves a l c old new h b before after did (ap is_in_body is) shut (λ o. let e = sym step ∙ o in cc) k
+          rests_gave s g serves a l c old new h b before after did (ap is_in_body is) shut (ap plain_rest step) k

@@ -37,7 +37,7 @@ use Rattle.conn.specs.declared.stage.Finish.TheVariants as finish
 use Rattle.conn.specs.declared.stage.Stage.TheVariants as stage
 use Rattle.conn.specs.declared.turn.Act as step_act
 use Rattle.conn.specs.declared.turn.Act.TheVariants as done
-use Rattle.conn.proofs.Acting.{ActGave, finishes_gave, gone_holds, rest_group, rest_noted, rests_gave}
+use Rattle.conn.proofs.Acting.{ActGave, finishes_gave, gone_holds, rest_group, rest_noted, rests_gave, plain_rest}
 use Rattle.conn.proofs.Dropped.{client_read}
 use Rattle.conn.proofs.Giving.{gave_one, quiet_queue}
 use Rattle.conn.specs.Servers.{queue_at_server}
@@ -85,13 +85,13 @@ module _ (s : code_setup.Setup) (g : Setup) (serves : Serves s g) (a : Around) (
       let ends = read_ends Client n old.ends in
       let l' = read_side Client n l in
       let p = enter g HttpRequest (link_by old.ends.link) (seen_host host) in
-      let known : Known g ends.link host = record { from = h.told.from; spoken = sym spoken ∙ h.told.spoken; alone = h.told.alone } in
+      let known : Known g host = record { from = h.told.from; spoken = sym spoken ∙ h.told.spoken } in
       let gone = enters_gone g l' s serves event.Request host ends old new k b.vars b.replies known (sym (ap (λ x. fits x old.ends.link) is) ∙ h.fits) refl (λ x. cc) in
       let to : Link → HostState → Next = λ m x. Does (Read Client n) (put (enter g HttpRequest m (request_host r x)) l') in
       let item : next_item g l ≡ Does (Read Client n) (put p l') = here ∙ ap (λ m. to m l.host) (link_is a l old.ends h.ends) ∙ ap (to (link_by old.ends.link)) b.host in
       record {
         at = put p l';
-        gave = gave_one g a l (put p l') c old new (Read Client n) h.no_cut (record { calls = refl; client = refl; kept = refl; to_none = refl; opens = λ c s t. refl; takes = (refl, λ t. refl) }) item refl
+        gave = gave_one g a l (put p l') c old new (Read Client n) h.no_cut (record { calls = refl; client = refl; to_none = refl; opens = λ c s t. refl; takes = (refl, λ t. refl) }) item refl
             (gone_holds g a false p l' ends new gone going (client_read a l (put p l') n old.ends h.ends refl refl refl refl) h.no_choice h.no_cut)
             (ap (λ e. e.client.queued) gone.ends) (ap queue_at_server gone.ends ∙ sym (quiet_queue (queue_at_server old.ends))) (ap (λ e. e.edges) gone.ends) (λ f. f);
         stops = gone.awake;
@@ -120,7 +120,7 @@ module _ (s : code_setup.Setup) (g : Setup) (serves : Serves s g) (a : Around) (
       by_part (Faulty f) there k = refuses s g serves a l c old new h b spoken going f (step ∙ ap (λ p. counted l.sent (head_next g l p)) there) before after did k
       by_part NoHead there k =
           let waits : next_item g l ≡ Waits (ForBytes Client) = step ∙ ap (λ p. counted l.sent (head_next g l p)) there in
-          rests_gave s g serves a l c old new h b before after did (ap is_in_body is) (subst (λ o. GivesNoMore false l.sent a.took o) (sym waits) refl) (λ o. let e = sym waits ∙ o in cc) k
+          rests_gave s g serves a l c old new h b before after did (ap is_in_body is) (subst (λ o. GivesNoMore false l.sent a.took o) (sym waits) refl) (ap plain_rest waits) k
 
 -- the client's unread bytes are these, as they were
 abbrev pub looked_at : List ℕ → Conn → Conn

@@ -9,15 +9,15 @@ use Rattle.core_events.specs.Edges.{edges_noted, is_connecting}
 use Rattle.conn_trace.specs.Costs.{in_body, paid_by}
 use Rattle.conn_trace.specs.Item.{Item, client_output}
 use Rattle.conn_trace.specs.Setup.{Setup}
-use Rattle.conn_trace.specs.State.{Absent, TraceState, link_of}
+use Rattle.conn_trace.specs.State.{TraceState}
 use Rattle.conn_trace.specs.Trace.{GivesNoMore, next_item}
 use Rattle.conn_trace.proofs.Costs.{paid_joins}
 use Rattle.core_events.specs.declared.edges.Edges.{Edges}
 use Rattle.core_events.specs.declared.note.Note.{Note}
 use Rattle.core_events.specs.declared.note.Note.TheVariants as note
 use Rattle.core_events.specs.declared.note.Cause.TheVariants.{Memory}
-use Rattle.conn.specs.Acts.{Acted}
-use Rattle.conn.specs.Ends.{link_by, lost_at, queued_in}
+use Rattle.conn.specs.Acted.{Acted}
+use Rattle.conn.specs.Ends.{lost_at, queued_in}
 use Rattle.conn.specs.Holds.{Around, Holds}
 use Rattle.conn.specs.Paid.{Paid}
 use Rattle.conn.specs.Queues.{dropped_at, dropped_by, queue_in}
@@ -33,10 +33,10 @@ use Rattle.conn.specs.declared.stage.Stage.TheVariants as stage
 use Rattle.conn.specs.declared.turn.Act.TheVariants as done
 use Rattle.conn.specs.declared.turn.ConnTurn.{ConnTurn}
 use Rattle.conn.specs.declared.turn.ConnTurn.TheVariants as turn
-use Rattle.conn.proofs.Advancing.{Tells, asks_there, rests_asking}
+use Rattle.conn.proofs.Telling.{Tells}
+use Rattle.conn.proofs.Advancing.{asks_there, rests_asking}
 use Rattle.conn.proofs.Arriving.{holds, with_edges}
 use Rattle.conn.proofs.Giving.{Gave, edges_on, gave_none, gave_more}
-use Rattle.conn.proofs.Places.{link_is}
 use Rattle.conn.proofs.Paying.{paid_ends, paid_within, runs_in}
 use Rattle.conn.proofs.Settling.{rests_with, settles}
 use Rattle.conn.proofs.Spending.{PaidWell, paid_well}
@@ -121,10 +121,6 @@ one_more s c old mid new before notes after steps ticks r acted counts =
           });
     }
 
--- with HTTP it has no server connection
-alone_at : (g : Setup) (a : Around) (l : TraceState) (c : Conn) → Holds g a l c → g.http ≡ true → link_of l.server ≡ Absent
-alone_at g a l c h speaks = link_is a l c.ends h.ends ∙ ap link_by (h.told.alone speaks)
-
 -- a Run that gave these items, and told this behind them
 gives : (g : Setup) (a : Around) (l at : TraceState) (c : ℕ) (old mid new : Conn) (group last : List Note) (t : ConnTurn) (steps : ℕ) (p : Gave g a l at c old mid group (asked_at t)) → last ≡ told_behind t g a.took at c mid.ends.edges (queued_in new.ends) → StopsAt g a.took at t → GoesForward t p.more at → Holds g a at new
     → new.ends.client.queued ≡ mid.ends.client.queued → queue_at_server new.ends ≡ queue_at_server mid.ends → is_asking new.stage ≡ asks t → ((counted paid : ℕ) → Paid g l old counted paid → Paid g at new (counted + steps) (paid + paid_by p.more)) → GoesOnWith g a l c old new (group ++ last) t steps
@@ -133,8 +129,6 @@ gives g a l at c old mid new group last t steps p is stops forward now client se
   at = at;
   items = record {
     passes = p.passes;
-    kept = p.kept;
-    alone = alone_at g a at mid p.holds;
     noted = ap (λ x. x ++ last) p.noted ∙ ap (λ x. run_notes c l.sent a.took p.more ++ x) (is ∙ ap (λ e. told_behind t g a.took at c e (queued_in new.ends)) (p.edges ∙ ap (λ n. edges_noted n old.ends.edges) p.noted));
     stops = stops;
     forward = forward;
@@ -245,7 +239,7 @@ runs_rests s c old mid new last before notes after told t steps ticks r acted co
     )
 
     -- where its trace stands, and what it gave
-    on : (t : ConnTurn) → (g : Setup) (a : Around) (l : TraceState) → Serves s g → Holds g a l old → is_asking old.stage ≡ false → told_behind t ≡ told_behind turn.NotYet → asked_at t ≡ [] → asks t ≡ false → ((more : List Item) (at : TraceState) → GoesForward t more at) → ((at : TraceState) → (GivesNoMore false at.sent a.took (next_item g at) × (is_cut a.took at ≡ false)) → Holds g a at new → StopsAt g a.took at t)
+    on : (t : ConnTurn) → (g : Setup) (a : Around) (l : TraceState) → Serves s g → Holds g a l old → is_asking old.stage ≡ false → told_behind t ≡ told_behind turn.NotYet → asked_at t ≡ [] → asks t ≡ false → ((more : List Item) (at : TraceState) → GoesForward t more at) → ((at : TraceState) → (GivesNoMore false at.sent a.took (next_item g at) × (is_cut g a.took at ≡ false)) → Holds g a at new → StopsAt g a.took at t)
         → GoesOnWith g a l c old (noted_in (rest_notes c new) new) ((r.group ++ k.group) ++ rest_notes c new) t (steps + ticks)
     on t g a l serves h awake is none quiet forward stops =
         let p = r.along g a l serves h awake in
@@ -297,8 +291,6 @@ runs_out s c pending old mid lost new before notes after t steps all r waits kep
         more = p.more;
         at = given.at;
         passes = p.passes;
-        kept = p.kept;
-        alone = alone_at g a given.at mid p.holds;
         to_none = p.to_none;
         no_call = p.calls;
         noted = ap (λ x. x ++ note.Finish c Memory ∷ closing c mid.ends.edges pending) p.noted ∙ ap (λ n. run_notes c l.sent a.took p.more ++ note.Finish c Memory ∷ closing c mid.ends.edges n) q
@@ -412,14 +404,14 @@ counts_on old spent spent' steps steps' inside outside sum = (
     by_stage false still = let k = outside still in omega (arith, k, sum)
 
 -- so many actions aren't made by a Run that counted no more and gave fewer notes
-pub whole_at_last : (actions rank given spent notes : ℕ) → actions + rank + 9 * given ≤ 9 * (spent + notes) + 8 → 18600 ≤ actions → (1990 < spent) ⊎ (64 ≤ notes - given)
+pub whole_at_last : (actions rank given spent notes : ℕ) → actions + rank + 15 * given ≤ 15 * (spent + notes) + 14 → 31000 ≤ actions → (1990 < spent) ⊎ (64 ≤ notes - given)
 whole_at_last actions rank given spent notes k most = by_count (nat_lt 1990 spent) refl
   where
     by_count : (b : Bool) → nat_lt 1990 spent ≡ b → (1990 < spent) ⊎ (64 ≤ notes - given)
     by_count true more = inl (grind (arith, nat_tests, more))
     by_count false few = inr (let least : spent ≤ 1990 = grind (arith, nat_tests, few) in omega (arith, k, most, least))
 
-pub some_counted : (actions rank given spent notes before : ℕ) → given ≡ before → actions + rank + 9 * given ≤ 9 * (spent + notes) + 8 → 18600 ≤ actions → (0 < spent) ⊎ (before < notes)
+pub some_counted : (actions rank given spent notes before : ℕ) → given ≡ before → actions + rank + 15 * given ≤ 15 * (spent + notes) + 14 → 31000 ≤ actions → (0 < spent) ⊎ (before < notes)
 some_counted actions rank given spent notes before is k most = by_whole (whole_at_last actions rank given spent notes k most)
   where
     by_whole : (1990 < spent) ⊎ (64 ≤ notes - given) → (0 < spent) ⊎ (before < notes)

@@ -1,6 +1,5 @@
 -- Selection and the connect, by the fields of a trace's state.
-use Rattle.std.proofs.Common.{◌≡◌, refl, sym, ap, ◌∙◌, ℕ, List, [], ◌∷◌, true, false, Option, Some, None}
-use Rattle.std.specs.Prelude.{option_map}
+use Rattle.std.proofs.Common.{◌≡◌, refl, ap, ◌∙◌, ℕ, List, [], ◌∷◌, true, false, Option, Some, None}
 use Rattle.px_bytes.specs.declared.addr.Addr.{Addr}
 use Rattle.px_bytes.specs.declared.fault.Reply.{Reply}
 use Rattle.px_bytes.specs.declared.fault.Reply.TheVariants as reply
@@ -13,11 +12,10 @@ use Rattle.conn_trace.specs.Gates.{sent_after}
 use Rattle.conn_trace.specs.Host.{HostState, with_selected}
 use Rattle.conn_trace.specs.Item.{Answered, Called, Connected, Resumed}
 use Rattle.conn_trace.specs.Places.{Place, at as put, enter}
-use Rattle.conn_trace.specs.Routing.{chosen}
 use Rattle.conn_trace.specs.Selected.{addr_of, any_member, only_member, select_call}
 use Rattle.conn_trace.specs.Setup.{Setup}
 use Rattle.conn_trace.specs.State.{Answering, Choosing, Connecting, Phase, Selecting, Absent, Up, Link, link_of, NoServer, Sought, There, Stream, TraceState, Next, Does, Waits, ForConnect, ForReply, with_replies, with_connects}
-use Rattle.conn_trace.specs.Trace.{answering_next, choosing_next, counted, default_next, next_item, phase_next, selected_next, selecting_next, served_by, serving}
+use Rattle.conn_trace.specs.Trace.{answering_next, choosing_next, counted, default_next, next_item, phase_next, selected_next, selecting_next, serving}
 use Rattle.conn_trace.proofs.Longer.{plain_next}
 use Rattle.conn.specs.Stages.{selects}
 
@@ -112,16 +110,12 @@ module _ (g : Setup) (k : Link) (h : HostState) (l : TraceState) where
   connecting_item a s = next_in g (Connecting a) h k l s
 
   -- the connection was made
-  pub made_item : (a : Addr) (s' : Stream) → h.http ≡ None → StandsIn (Answering a) h k l → l.answers.connects ≡ Some s' ∷ []
-      → next_item g l ≡ Does (Answered true) (record (put (enter g ServerConnected Up h) (with_connects [] (record l { server = There s' }))) { sent = sent_after (Answered true) l.sent })
-  made_item a s' plain s came =
+  pub made_item : (a : Addr) (s' : Stream) → StandsIn (Answering a) h k l → l.answers.connects ≡ Some s' ∷ []
+      → next_item g l ≡ Does (Answered true) (record (put (enter g ServerConnected Up (serving h)) (with_connects [] (record l { server = There s' }))) { sent = sent_after (Answered true) l.sent })
+  made_item a s' s came =
       next_in g (Answering a) h k l s
       ∙ ap (λ cs. counted l.sent (answering_next g l cs)) came
       ∙ ap (λ x. Does (Answered true) (record (put (enter g ServerConnected Up (serving x)) (with_connects [] (record l { server = There s' }))) { sent = sent_after (Answered true) l.sent })) s.host
-      ∙ ap (λ x. Does (Answered true) (record (put (enter g ServerConnected Up x) (with_connects [] (record l { server = There s' }))) { sent = sent_after (Answered true) l.sent })) (serves_none plain)
-    where
-      serves_none : h.http ≡ None → serving h ≡ h
-      serves_none e = ap (λ o. record h { http = option_map (served_by (chosen h)) o }) e ∙ ap (λ o. record h { http = o }) (sym e)
 
   -- or refused
   pub refused_item : (a : Addr) → StandsIn (Answering a) h k l → l.answers.connects ≡ None ∷ []

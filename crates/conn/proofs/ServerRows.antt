@@ -1,14 +1,14 @@
 -- Two server connections of one connection, by computation: the first is given up and still drains while the second is wanted.
-use Rattle.std.proofs.Common.{◌≡◌, refl, ℕ, List, [], ◌∷◌, Bool, true, false, Option, Some, None}
+use Rattle.std.proofs.Common.{◌≡◌, refl, ℕ, List, [], ◌∷◌, true, false, Option, Some, None}
 use Rattle.px_bytes.specs.declared.addr.Addr.{Addr}
-use Rattle.px_bytes.specs.declared.addr.Side.TheVariants.{Client, Server}
+use Rattle.px_bytes.specs.declared.addr.Side.TheVariants.{Server}
 use Rattle.core_events.specs.Edges.{edge}
 use Rattle.core_events.specs.declared.edges.Edges.{Edges}
 use Rattle.core_events.specs.declared.edges.EdgeState.{EdgeState}
 use Rattle.core_events.specs.declared.edges.EdgeState.TheVariants as state
 use Rattle.core_events.specs.declared.event_kind.EventKind.TheVariants.{Comes}
 use Rattle.core_events.specs.declared.input.Input.{Input}
-use Rattle.core_events.specs.declared.input.Input.TheVariants.{Bytes, Resets, Connects, Takes}
+use Rattle.core_events.specs.declared.input.Input.TheVariants.{Resets, Connects, Takes}
 use Rattle.core_events.specs.declared.note.Note.TheVariants.{CloseServer, Connect}
 use Rattle.conn_trace.specs.Gates.{Counts, TakenCounts, may_give, sent_from, to_take}
 use Rattle.conn_trace.specs.Heard.{Heard, hears, nothing_heard, taken}

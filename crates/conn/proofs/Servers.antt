@@ -2,7 +2,6 @@
 use Rattle.std.proofs.Common.{◌≡◌, refl, sym, ap, ◌∙◌, ℕ, zero, suc, ◌+◌, ◌-◌, ◌≤◌, List, [], ◌∷◌, ◌++◌, append_assoc, length, length-append, Option, Some, None, arith, slice_get, unwrap_or, Bool, true, false, true≢false, ◌||◌}
 use Rattle.std.specs.Prelude.{option_map}
 use Rattle.std.proofs.lemmas.Grind.{flat_map-append}
-use Rattle.core_events.specs.declared.note.Note.{Note}
 use Rattle.conn_trace.specs.Gates.{Counts, TakenCounts, sent_after, sent_from, taken_of, untaken}
 use Rattle.conn_trace.specs.Item.{Item, Opened, Resumed, Answered, Read, Moved, Passed, Fired, Reused, Retires, Called, Connected, Logged, Sent, Ran, Finished, note_of, notes_of}
 use Rattle.conn.specs.Calls.{more_at_last, none_at_last}

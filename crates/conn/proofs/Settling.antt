@@ -1,5 +1,5 @@
 -- What a connection owes the outside where it can't go on, by its fields and by its trace.
-use Rattle.std.proofs.Common.{◌≡◌, refl, sym, ap, ◌∙◌, ℕ, zero, suc, ◌+◌, ◌-◌, List, [], ◌∷◌, ◌++◌, drop, length, Bool, true, false, true≢false, ◌&&◌, not, Option, Some, None, nat_eq, arith, if◌then◌else◌}
+use Rattle.std.proofs.Common.{◌≡◌, refl, sym, ap, ◌∙◌, ℕ, ◌+◌, ◌-◌, List, [], ◌∷◌, ◌++◌, drop, length, Bool, true, false, true≢false, ◌&&◌, not, Option, Some, None, nat_eq, arith, if◌then◌else◌}
 use Rattle.std.proofs.lemmas.Bool.{and_parts}
 use Rattle.std.specs.Prelude.{slice_get}
 use Rattle.px_bytes.specs.declared.addr.Addr.{Addr}
@@ -29,7 +29,7 @@ use Rattle.conn_trace.specs.Queries as query
 use Rattle.conn_trace.specs.Relay.{RelayAct, BothDone, Passing, Firing, Resting, behind_fires, collect_act, incoming, relay_act}
 use Rattle.conn_trace.specs.Selected.{addr_of}
 use Rattle.conn_trace.specs.Setup.{Handler, Setup}
-use Rattle.conn_trace.specs.State.{Bodies, Gated, Running, Failing, Phase, InEvent, AtHead, Continuing, Gathering, AtReuse, GivingUp, Retiring, Heading, Forwarding, Dropping, AtResponse, Choosing, Selecting, Connecting, Answering, Releasing, Relaying, Collecting, Finishing, Draining, Link, Next, ServerSide, Stream, There, TraceState, link_of, server_stream, stream_of}
+use Rattle.conn_trace.specs.State.{Bodies, Gated, Running, Failing, Phase, InEvent, AtHead, Continuing, Gathering, AtReuse, GivingUp, Retiring, Heading, Forwarding, Dropping, AtResponse, Choosing, Selecting, Connecting, Answering, Releasing, Relaying, Collecting, Finishing, Draining, Link, Next, Stream, There, TraceState, link_of, server_stream, stream_of}
 use Rattle.conn_trace.specs.State as next
 use Rattle.conn_trace.specs.Trace.{answering_next, choosing_next, collect_next, collecting_next, counted, default_next, next_item, phase_next, relay_next, selected_next, selecting_next}
 use Rattle.conn_trace.proofs.Longer.{plain_next}
@@ -40,7 +40,7 @@ use Rattle.conn.specs.Holds.{Around, Between, GatedBefore, Holds, RunsFirst, Sta
 use Rattle.conn.specs.Queues.{dropped_at, dropped_by, queue_in}
 use Rattle.core_events.specs.declared.note.Note.TheVariants.{HalfClose}
 use Rattle.conn.specs.Settling as settle
-use Rattle.conn.specs.Settling.{DropsReset, RestsWith, Settles, SettlesNotes, half_close, half_due, half_notes, is_drained, is_over, is_spent, lost_by, lost_of, note_if, noted_in, over_in, rest_notes, settle_notes, settling, settling_at, server_lost, gave_up, gave_up_at}
+use Rattle.conn.specs.Settling.{DropsReset, RestsWith, Settles, SettlesNotes, half_close, half_due, half_notes, is_over, is_spent, lost_by, lost_of, note_if, noted_in, over_in, rest_notes, settle_notes, settling, server_lost, gave_up, gave_up_at}
 use Rattle.conn.specs.Stages.{has_finished, is_draining, is_in_body, is_relaying, reason_for}
 use Rattle.conn.specs.declared.connection.Conn.{Conn}
 use Rattle.conn.specs.declared.ends.End.{End}
@@ -157,7 +157,13 @@ stage_last g (stage.Answering to) l c k = ap is_last k.0
 stage_last g stage.Collecting l c k = ap is_last k.0
 stage_last g stage.AtHead l c k = ap is_last k.0
 stage_last g stage.Continuing l c k = ap is_last k.0
-stage_last g (stage.Gathering wanted reader) l c k = ap is_last k.0
+stage_last g (stage.Gathering side wanted reader) l c k = ap is_last k.0
+stage_last g stage.AtReuse l c k = ap is_last k.0
+stage_last g (stage.GivingUp w) l c k = ap is_last k.0
+stage_last g (stage.Retiring w) l c k = ap is_last k.0
+stage_last g (stage.Heading side) l c k = ap is_last k.0
+stage_last g (stage.Forwarding side reader standing) l c k = ap is_last k.0
+stage_last g stage.AtResponse l c k = ap is_last k.0
 stage_last g (stage.Dropping reader) l c k = ap is_last k.0
 stage_last g stage.Releasing l c k = ap is_last k.0
 stage_last g (stage.Relaying first) l c k = ap is_last k.0
@@ -183,6 +189,7 @@ given_up_side link.Refused e = refl
 given_up_side link.Made e = refl
 given_up_side link.Up e = refl
 given_up_side link.GivenUp e = refl
+given_up_side (link.Leaving w) e = refl
 
 gave_up_is : (g : Setup) (st : Stage) (l : TraceState) (c : Conn) (k : CodeLink) → Stands g st l c → gave_up_at st k ≡ is_given_up k
 gave_up_is g (stage.Gated at) l c k r = refl
@@ -197,7 +204,13 @@ gave_up_is g (stage.Answering to) l c k r = refl
 gave_up_is g stage.Collecting l c k r = refl
 gave_up_is g stage.AtHead l c k r = refl
 gave_up_is g stage.Continuing l c k r = refl
-gave_up_is g (stage.Gathering wanted reader) l c k r = refl
+gave_up_is g (stage.Gathering side wanted reader) l c k r = refl
+gave_up_is g stage.AtReuse l c k r = refl
+gave_up_is g (stage.GivingUp w) l c k r = refl
+gave_up_is g (stage.Retiring w) l c k r = refl
+gave_up_is g (stage.Heading side) l c k r = refl
+gave_up_is g (stage.Forwarding side reader standing) l c k r = refl
+gave_up_is g stage.AtResponse l c k r = refl
 gave_up_is g (stage.Dropping reader) l c k r = refl
 gave_up_is g stage.Releasing l c k r = refl
 gave_up_is g (stage.Relaying first) l c k r = refl
@@ -228,6 +241,7 @@ up_relay link.Refused e = refl
 up_relay link.Made e = refl
 up_relay link.Up e = refl
 up_relay link.GivenUp e = refl
+up_relay (link.Leaving w) e = refl
 
 client_relay : (bodies : Bodies) (k : CodeLink) (e : End) → relays_at (InEvent ClientData bodies) (link_of (server_by k e)) ≡ is_up k
 client_relay bodies link.Absent e = refl
@@ -236,6 +250,7 @@ client_relay bodies link.Refused e = refl
 client_relay bodies link.Made e = refl
 client_relay bodies link.Up e = refl
 client_relay bodies link.GivenUp e = refl
+client_relay bodies (link.Leaving w) e = refl
 
 server_relay : (bodies : Bodies) (k : CodeLink) (e : End) → relays_at (InEvent ServerData bodies) (link_of (server_by k e)) ≡ is_up k
 server_relay bodies link.Absent e = refl
@@ -244,6 +259,7 @@ server_relay bodies link.Refused e = refl
 server_relay bodies link.Made e = refl
 server_relay bodies link.Up e = refl
 server_relay bodies link.GivenUp e = refl
+server_relay bodies (link.Leaving w) e = refl
 
 at_relays : (at : At) (bodies : Bodies) (k : CodeLink) (e : End) → relays_at (InEvent (event_of at) bodies) (link_of (server_by k e)) ≡ (is_data at && is_up k)
 at_relays at.Accepted bodies k e = refl
@@ -252,6 +268,8 @@ at_relays at.Selected bodies k e = refl
 at_relays at.Failed bodies k e = refl
 at_relays at.Connected bodies k e = refl
 at_relays at.Request bodies k e = refl
+at_relays at.Response bodies k e = refl
+at_relays at.Leaving bodies k e = refl
 at_relays at.ServerData bodies k e = server_relay bodies k e
 at_relays at.ServerClosed bodies k e = refl
 at_relays at.Closed bodies k e = refl
@@ -273,7 +291,13 @@ relays_is g (stage.Answering to) l c k e r quiet = closed_relay l.phase (Answeri
 relays_is g stage.Collecting l c k e r quiet = closed_relay l.phase Collecting (link_of (server_by k e)) r.0 refl
 relays_is g stage.AtHead l c k e r quiet = closed_relay l.phase _ (link_of (server_by k e)) r.0 refl
 relays_is g stage.Continuing l c k e r quiet = closed_relay l.phase _ (link_of (server_by k e)) r.0 refl
-relays_is g (stage.Gathering wanted reader) l c k e r quiet = closed_relay l.phase _ (link_of (server_by k e)) r.0 refl
+relays_is g (stage.Gathering side wanted reader) l c k e r quiet = closed_relay l.phase _ (link_of (server_by k e)) r.0 refl
+relays_is g stage.AtReuse l c k e r quiet = closed_relay l.phase _ (link_of (server_by k e)) r.0 refl
+relays_is g (stage.GivingUp w) l c k e r quiet = closed_relay l.phase _ (link_of (server_by k e)) r.0 refl
+relays_is g (stage.Retiring w) l c k e r quiet = closed_relay l.phase _ (link_of (server_by k e)) r.0 refl
+relays_is g (stage.Heading side) l c k e r quiet = closed_relay l.phase _ (link_of (server_by k e)) r.0 refl
+relays_is g (stage.Forwarding side reader standing) l c k e r quiet = closed_relay l.phase _ (link_of (server_by k e)) r.0 refl
+relays_is g stage.AtResponse l c k e r quiet = closed_relay l.phase _ (link_of (server_by k e)) r.0 refl
 relays_is g (stage.Dropping reader) l c k e r quiet = closed_relay l.phase _ (link_of (server_by k e)) r.0 refl
 relays_is g stage.Releasing l c k e r quiet = closed_relay l.phase Releasing (link_of (server_by k e)) r.0 refl
 relays_is g (stage.Relaying first) l c k e r quiet = ap (λ x. relays_at x (link_of (server_by k e))) r.0 ∙ up_relay k e
@@ -289,6 +313,7 @@ up_is link.Asked e = absurd (true≢false (sym e))
 up_is link.Refused e = absurd (true≢false (sym e))
 up_is link.Made e = absurd (true≢false (sym e))
 up_is link.GivenUp e = absurd (true≢false (sym e))
+up_is (link.Leaving w) e = absurd (true≢false (sym e))
 up_is link.Up e = refl
 
 record Relays (l : TraceState) (c : Conn) (st : Stage) (k : CodeLink) : Type 0 where
@@ -310,7 +335,13 @@ relaying_is g (stage.Answering to) l c k r e = absurd (true≢false (sym e))
 relaying_is g stage.Collecting l c k r e = absurd (true≢false (sym e))
 relaying_is g stage.AtHead l c k r e = absurd (true≢false (sym e))
 relaying_is g stage.Continuing l c k r e = absurd (true≢false (sym e))
-relaying_is g (stage.Gathering wanted reader) l c k r e = absurd (true≢false (sym e))
+relaying_is g (stage.Gathering side wanted reader) l c k r e = absurd (true≢false (sym e))
+relaying_is g stage.AtReuse l c k r e = absurd (true≢false (sym e))
+relaying_is g (stage.GivingUp w) l c k r e = absurd (true≢false (sym e))
+relaying_is g (stage.Retiring w) l c k r e = absurd (true≢false (sym e))
+relaying_is g (stage.Heading side) l c k r e = absurd (true≢false (sym e))
+relaying_is g (stage.Forwarding side reader standing) l c k r e = absurd (true≢false (sym e))
+relaying_is g stage.AtResponse l c k r e = absurd (true≢false (sym e))
 relaying_is g (stage.Dropping reader) l c k r e = absurd (true≢false (sym e))
 relaying_is g stage.Releasing l c k r e = absurd (true≢false (sym e))
 relaying_is g (stage.Finishing f) l c k r e = absurd (true≢false (sym e))
@@ -439,6 +470,7 @@ lost_client false q counted sent is = refl
 taken_streams : (k : CodeLink) → is_taken k ≡ true → has_stream k ≡ true
 taken_streams link.Up e = refl
 taken_streams link.GivenUp e = refl
+taken_streams (link.Leaving w) e = refl
 taken_streams link.Absent e = absurd (true≢false (sym e))
 taken_streams link.Asked e = absurd (true≢false (sym e))
 taken_streams link.Refused e = absurd (true≢false (sym e))
@@ -468,6 +500,7 @@ module _ (a : Around) (l : TraceState) (e : BothEnds) (h : HoldsEnds a l e) wher
       by_link link.Made is = none_lost e.server.reset e.server.queued (let k : length e.server.queued + a.counted_server ≡ 0 = h.server_untaken (ap has_stream is) ∙ ap (λ x. sent_here x l.sent.server) is in omega (arith, k))
       by_link link.Up is = taken link.Up is refl refl
       by_link link.GivenUp is = taken link.GivenUp is refl refl
+      by_link (link.Leaving w) is = taken (link.Leaving w) is refl refl
 
 pub drops_reset : (c : Conn) → DropsReset c (dropped_by c)
 drops_reset c g a l h = by_stage c.stage h.stage
@@ -495,7 +528,13 @@ drops_reset c g a l h = by_stage c.stage h.stage
     by_stage stage.Collecting k = lost_is
     by_stage stage.AtHead k = lost_is
     by_stage stage.Continuing k = lost_is
-    by_stage (stage.Gathering wanted reader) k = lost_is
+    by_stage (stage.Gathering side wanted reader) k = lost_is
+    by_stage stage.AtReuse k = lost_is
+    by_stage (stage.GivingUp w) k = lost_is
+    by_stage (stage.Retiring w) k = lost_is
+    by_stage (stage.Heading side) k = lost_is
+    by_stage (stage.Forwarding side reader standing) k = lost_is
+    by_stage stage.AtResponse k = lost_is
     by_stage (stage.Dropping reader) k = lost_is
     by_stage stage.Releasing k = lost_is
     by_stage (stage.Relaying first) k = lost_is

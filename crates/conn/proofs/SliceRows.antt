@@ -1,5 +1,5 @@
 -- Which Runs spend a slice.
-use Rattle.std.proofs.Common.{◌≡◌, refl, ℕ, [], ◌∷◌}
+use Rattle.std.proofs.Common.{◌≡◌, refl, []}
 use Rattle.conn.specs.RunsItems.{slices_in}
 use Rattle.conn.specs.declared.turn.ConnTurn.TheVariants as turn
 

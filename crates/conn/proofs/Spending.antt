@@ -1,9 +1,9 @@
 -- What an action gives, with the steps that it counts paid for.
-use Rattle.std.proofs.Common.{◌≡◌, refl, ap, subst, ◌∙◌, ℕ, List, [], ◌++◌, drop, Bool, true, false, true≢false, sym, Option, Some, None}
+use Rattle.std.proofs.Common.{◌≡◌, refl, ap, subst, ◌∙◌, ℕ, List, [], ◌++◌, drop, true, false, true≢false, sym, Option, Some, None}
 use Rattle.conn_trace.specs.Setup.{Handler, Setup}
 use Rattle.conn_trace.specs.State.{TraceState}
 use Rattle.core_events.specs.declared.note.Note.{Note}
-use Rattle.conn.specs.Acts.{Acted, ActedAt}
+use Rattle.conn.specs.Acted.{Acted, ActedAt}
 use Rattle.conn.specs.Events.{event_of}
 use Rattle.conn.specs.Holds.{Around, Holds, RunsFirst, Stands}
 use Rattle.conn.specs.Setups.{body_at, Serves}
@@ -15,7 +15,8 @@ use Rattle.conn.specs.declared.setup.Setup as code_setup
 use Rattle.conn.specs.declared.stage.Stage.{Stage}
 use Rattle.conn.specs.declared.stage.Stage.TheVariants as stage
 use Rattle.conn.specs.declared.turn.Act as step_act
-use Rattle.conn.proofs.Advancing.{Tells, acted_well, steps_tell}
+use Rattle.conn.proofs.Telling.{Tells, steps_tell}
+use Rattle.conn.proofs.Advancing.{acted_well}
 use Rattle.conn.proofs.BodyMoves.{body_gives, step_notes}
 use Rattle.conn.proofs.Leading.{outside_led}
 use Rattle.conn.proofs.Paying.{ActPaid, outside_paid}

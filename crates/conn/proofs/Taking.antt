@@ -43,6 +43,7 @@ servers_more ts link.Refused b m n = refl
 servers_more ts link.Made b m n = more_behind n ts (taken_by b m) ∙ ap (λ t. ts ++ t ∷ []) (counted_more b m n)
 servers_more ts link.Up b m n = more_behind n ts (taken_by b m) ∙ ap (λ t. ts ++ t ∷ []) (counted_more b m n)
 servers_more ts link.GivenUp b m n = more_behind n ts (taken_by b m) ∙ ap (λ t. ts ++ t ∷ []) (counted_more b m n)
+servers_more ts (link.Leaving w) b m n = more_behind n ts (taken_by b m) ∙ ap (λ t. ts ++ t ∷ []) (counted_more b m n)
 
 left_of : (n k sent : ℕ) (e : End) → n ≤ length (queue_of e) → length e.queued + k ≡ sent → length (drop n e.queued) + (k + n) ≡ sent
 left_of n k sent e within is = let d = length-drop n e.queued in let most = queue_within e in omega (arith, d, within, most, is)
@@ -66,6 +67,7 @@ took_same link.Refused n s = (refl, refl)
 took_same link.Made n s = (refl, refl)
 took_same link.Up n s = (refl, refl)
 took_same link.GivenUp n s = (refl, refl)
+took_same (link.Leaving w) n s = (refl, refl)
 
 pub takes_ends : (a : Around) (l : TraceState) (side : Side) (n : ℕ) (e : Ends) → n ≤ length (queue_of (end_of side e)) → HoldsEnds a l e → HoldsEnds (took_more side n a) l (took_ends side n e)
 takes_ends a l Client n e within h = record {

@@ -1,5 +1,5 @@
 -- What one action changes.
-use Rattle.std.specs.Prelude.{◌≡◌, ℕ, ◌+◌, List, [], ◌∷◌, ◌++◌, length, Bool, ◌&&◌, nat_lt}
+use Rattle.std.specs.Prelude.{◌≡◌, ℕ, ◌+◌, List, [], ◌∷◌, ◌++◌, length, Bool, ◌&&◌, ◌||◌, not, nat_lt}
 use Rattle.std.specs.Prelude.{true, false, Option, Some, None, Result, Ok, Err, is_some, take, if◌then◌else◌}
 use Rattle.std.specs.Bool.{MatchBool}
 use Rattle.px_bytes.specs.declared.addr.Addr.{Addr}
@@ -42,28 +42,34 @@ use Rattle.conn.specs.declared.stage.Stage.TheVariants as stage
 use Rattle.conn.specs.declared.turn.Act.{Act}
 use Rattle.conn.specs.declared.turn.Act.TheVariants as act
 use Rattle.conn.specs.Changes.{Closes, Enters, GoesTo, NextBody, StartsBody}
-use Rattle.conn.specs.Choosing.{Chooses, TakesChosen}
 use Rattle.conn.specs.Ends.{fresh_end, is_up}
-use Rattle.conn.specs.Events.{is_closed}
-use Rattle.conn.specs.Hosts.{requested_host}
+use Rattle.conn.specs.Events.{is_closing}
+use Rattle.conn.specs.Hosts.{requested_host, serving_host}
 use Rattle.conn.specs.Queues.{queue_in}
 use Rattle.conn.specs.Dropping.{Drops}
 use Rattle.conn.specs.Relaying.{Fires, PassesOn, Releases, queue_end, read_ends, relay_plan}
 use Rattle.conn.specs.Relaying.{round_begun}
 use Rattle.conn.specs.Stages.{asked_stage, cause_for, has_finished, http_in, next_stage}
-use Rattle.conn.specs.Steps.{BodyMoved}
 
 -- it finishes for this reason
 abbrev pub Finishes : Setup → ℕ → Finish → Conn → Conn → List Note → List Note → Type 0
 Finishes s c f old new before after =
     Closes s old new × (after ≡ before ++ note.Finish c (cause_for f) ∷ [])
 
+-- The server's reset cuts it; with HTTP only where it waits for bytes of the server.
+abbrev pub server_cuts : (waits : Bool) → Conn → Bool
+server_cuts waits c =
+    is_up c.ends.link && (c.ends.server.reset && (waits || not (is_some c.host.http)))
+
 -- the reset that cuts it
-abbrev pub cut_of : Conn → Option CutReason
-cut_of c =
+abbrev pub cut_by : (waits : Bool) → Conn → Option CutReason
+cut_by waits c =
     if has_finished c.stage then None
     else (if c.ends.client.reset then Some ClientReset
-    else (if is_up c.ends.link && c.ends.server.reset then Some ServerReset else None))
+    else (if server_cuts waits c then Some ServerReset else None))
+
+abbrev pub cut_of : Conn → Option CutReason
+cut_of c = cut_by false c
 
 -- where nothing may be given it is cut by a reset that was told, or rests
 abbrev pub RestsBy : Option CutReason → Setup → ℕ → Conn → Conn → List Note → List Note → Act
@@ -74,6 +80,15 @@ RestsBy (Some reason) s c old new before after a =
 
 abbrev pub Rests : Setup → ℕ → Conn → Conn → List Note → List Note → Act → Type 0
 Rests s c old new before after a = RestsBy (cut_of old) s c old new before after a
+
+-- it waits for bytes of a side
+abbrev pub is_server : Side → Bool
+is_server Client = false
+is_server Server = true
+
+abbrev pub WaitsFor : Side → Setup → ℕ → Conn → Conn → List Note → List Note → Act → Type 0
+WaitsFor side s c old new before after a =
+    RestsBy (cut_by (is_server side) old) s c old new before after a
 
 -- there is room for what bodies send to either side
 abbrev pub has_room : Conn → Bool
@@ -88,7 +103,7 @@ PassesGate s c at old new before after a = MatchBool (has_room old)
 
 -- behind a fault it finishes; a closing event goes on
 abbrev pub BehindFault : Setup → At → ℕ → FaultKind → Conn → Conn → Type 0
-BehindFault s at next kind old new = MatchBool (is_closed at)
+BehindFault s at next kind old new = MatchBool (is_closing at)
     (NextBody s at next old new) (GoesTo (stage.Finishing (finish.Fault kind)) old new)
 
 -- the server is asked for a connection: nothing is queued to it, and what the one before didn't take is
@@ -106,7 +121,6 @@ pub record Connects (c : ℕ) (to : Addr) (old new : Conn) (before after : List 
   pub vars : new.vars ≡ old.vars
   pub host : new.host ≡ old.host
   pub ends : new.ends ≡ asked_ends old.ends
-  pub plain : old.host.http ≡ None
   pub noted : after ≡ before ++ note.Connect c to ∷ []
 
 -- once the server connection before took all
@@ -120,7 +134,7 @@ with_link l e = record e { link = l }
 
 abbrev pub AnswersBy : Link → Setup → ℕ → Conn → Conn → List Note → List Note → Act → Type 0
 AnswersBy link.Made s c old new before after a =
-    (a ≡ act.Goes) × Enters s Connected old.host (with_link link.Up old.ends) old new
+    (a ≡ act.Goes) × Enters s Connected (serving_host old.host) (with_link link.Up old.ends) old new
     × (after ≡ before)
 AnswersBy link.Refused s c old new before after a =
     (a ≡ act.Goes) × Enters s Failed old.host (with_link link.Absent old.ends) old new
@@ -182,7 +196,7 @@ pub record ReadsTo (n : ℕ) (st : Stage) (old new : Conn) : Type 0 where
 -- the client is told to go on with its request, where there is room
 abbrev pub TellsToGoOn : Setup → ℕ → Conn → Conn → List Note → List Note → Act → Type 0
 TellsToGoOn s c old new before after a = MatchBool (client_room old)
-    ((a ≡ act.Goes) × SendsClient continue_text (asked_stage (http_in old.host)) old new
+    ((a ≡ act.Goes) × SendsClient continue_text (asked_stage old.ends.link old.host) old new
     × (after ≡ before))
     (Rests s c old new before after a)
 
@@ -242,50 +256,3 @@ HeadBy NoHead s c old new before after a = Rests s c old new before after a
 abbrev pub ReadsHead : Setup → ℕ → Conn → Conn → List Note → List Note → Act → Type 0
 ReadsHead s c old new before after a =
     HeadBy (head_part old.ends.client.unread old.ends.client.ended) s c old new before after a
-
--- What one action does, by where the connection stands; a body's step alone ticks. While a body is
--- gathered nothing is done yet.
-abbrev pub ActedAt : Stage → Setup → ℕ → Conn → Conn → List Note → List Note → Act → (ticks : ℕ)
-    → Type 0
-ActedAt (stage.Gated at) s c old new before after a ticks =
-    PassesGate s c at old new before after a
-ActedAt (stage.Running at number) s c old new before after a ticks =
-    BodyMoved s c at number old new before after a ticks
-ActedAt (stage.Failing at next kind line) s c old new before after a ticks =
-    (a ≡ act.Goes) × BehindFault s at next kind old new × (after ≡ before ++ note.Log c line ∷ [])
-ActedAt stage.Choosing s c old new before after a ticks =
-    Chooses s old new a × (after ≡ before)
-ActedAt (stage.Chosen addr) s c old new before after a ticks =
-    (a ≡ act.Goes) × TakesChosen s addr old new × (after ≡ before)
-ActedAt (stage.Connecting to) s c old new before after a ticks =
-    ConnectsNext s c to old new before after a
-ActedAt (stage.Answering to) s c old new before after a ticks =
-    Answers s c old new before after a
-ActedAt stage.Collecting s c old new before after a ticks = Collects s c old new before after a
-ActedAt stage.Releasing s c old new before after a ticks =
-    PassesReleased s c old new before after a
-ActedAt (stage.Relaying first) s c old new before after a ticks =
-    Relays s c first old new before after a
-ActedAt stage.AtHead s c old new before after a ticks =
-    (is_some old.host.http ≡ true) × ReadsHead s c old new before after a
-ActedAt stage.Continuing s c old new before after a ticks =
-    (is_some old.host.http ≡ true) × TellsToGoOn s c old new before after a
-ActedAt (stage.Gathering wanted reader) s c old new before after a ticks = ⊥
-ActedAt (stage.Dropping reader) s c old new before after a ticks =
-    (is_some old.host.http ≡ true) × DropsBody reader s c old new before after a
-ActedAt (stage.Finishing f) s c old new before after a ticks =
-    (a ≡ act.Goes) × Finishes s c f old new before after
-ActedAt other s c old new before after a ticks =
-    (a ≡ act.Rests) × (new ≡ old) × (after ≡ before)
-
--- logs the fault that a body left
-abbrev pub LogsAt : Stage → Setup → ℕ → Conn → Conn → List Note → List Note → Type 0
-LogsAt (stage.Failing at next kind line) s c old new before after =
-    BehindFault s at next kind old new × (after ≡ before ++ note.Log c line ∷ [])
-LogsAt other s c old new before after = Unit {0}
-
-abbrev pub LogsFault : Setup → ℕ → Conn → Conn → List Note → List Note → Type 0
-LogsFault s c old new before after = LogsAt old.stage s c old new before after
-
-abbrev pub Acted : Setup → ℕ → Conn → Conn → List Note → List Note → Act → (ticks : ℕ) → Type 0
-Acted s c old new before after a ticks = ActedAt old.stage s c old new before after a ticks

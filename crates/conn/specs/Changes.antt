@@ -1,11 +1,14 @@
 -- Where a connection goes between bodies, and as it closes.
-use Rattle.std.specs.Prelude.{◌≡◌, ℕ, length, nat_lt}
+use Rattle.std.specs.Prelude.{◌≡◌, ℕ, length, nat_lt, false}
 use Rattle.std.specs.Bool.{MatchBool}
 use Rattle.conn.specs.declared.connection.Conn.{Conn}
 use Rattle.conn.specs.declared.ends.Ends.{Ends}
 use Rattle.conn.specs.declared.events.At.{At}
 use Rattle.conn.specs.declared.events.At.TheVariants.{Accepted, ClientData, Selected, Failed}
-use Rattle.conn.specs.declared.events.At.TheVariants.{Connected, Request, ServerData}
+use Rattle.conn.specs.declared.events.At.TheVariants.{Connected, Request, Response, ServerData}
+use Rattle.conn.specs.declared.events.At.TheVariants.{Leaving}
+use Rattle.conn.specs.declared.ends.Behind.{Behind}
+use Rattle.conn.specs.declared.ends.Link.TheVariants as link
 use Rattle.conn.specs.declared.events.At.TheVariants.{ServerClosed, Closed}
 use Rattle.conn.specs.declared.host.RuleHost.{RuleHost}
 use Rattle.conn.specs.declared.setup.Setup.{Setup}
@@ -61,6 +64,8 @@ Leaves s Selected old new = GoesTo (left_stage Selected old) old new
 Leaves s Failed old new = GoesTo (left_stage Failed old) old new
 Leaves s Connected old new = GoesTo (left_stage Connected old) old new
 Leaves s Request old new = GoesTo (left_stage Request old) old new
+Leaves s Response old new = GoesTo (left_stage Response old) old new
+Leaves s Leaving old new = GoesTo (left_stage Leaving old) old new
 Leaves s ServerData old new = GoesTo (left_stage ServerData old) old new
 Leaves s Closed old new = GoesTo (left_stage Closed old) old new
 
@@ -79,6 +84,14 @@ pub record ClosesServer (s : Setup) (old new : Conn) : Type 0 where
 abbrev pub Closes : Setup → Conn → Conn → Type 0
 Closes s old new =
     MatchBool (is_sought old.ends.link) (ClosesServer s old new) (ClosesClient s old new)
+
+-- the server connection is given up: its closing event comes
+pub record LeavesServer (s : Setup) (b : Behind) (old new : Conn) : Type 0 where
+  pub mid : Conn
+  pub vars : mid.vars ≡ old.vars
+  pub host : mid.host ≡ begun_host Leaving false old.host
+  pub ends : mid.ends ≡ record old.ends { link = link.Leaving b }
+  pub goes : NextBody s Leaving 0 mid new
 
 -- an event is entered on this host, with these ends
 pub record Enters (s : Setup) (at : At) (h : RuleHost) (e : Ends) (old new : Conn)

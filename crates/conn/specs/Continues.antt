@@ -23,7 +23,6 @@ use Rattle.conn_trace.specs.Trace.{trace, start}
 use Rattle.frames.specs.Frames.{comes_to}
 use Rattle.irule_net.specs.declared.state.NetState.{NetState}
 use Rattle.px_bytes.specs.declared.addr.Side.{Side}
-use Rattle.px_bytes.specs.declared.addr.Side.TheVariants.{Client}
 use Rattle.conn.specs.declared.connection.Conn.{Conn}
 use Rattle.conn.specs.declared.ends.Ends.{Ends}
 use Rattle.conn.specs.declared.ends.Link.{Link}
@@ -31,7 +30,7 @@ use Rattle.conn.specs.declared.ends.Link.TheVariants as link
 use Rattle.conn.specs.declared.stage.Stage.{Stage}
 use Rattle.conn.specs.declared.stage.Stage.TheVariants as stage
 use Rattle.conn.specs.declared.turn.ConnTurn.{ConnTurn}
-use Rattle.conn.specs.Ends.{arrived, connects_by, is_taken, server_by}
+use Rattle.conn.specs.Ends.{arrived, behind_of, connects_by, is_taken, server_by}
 use Rattle.conn.specs.Calls.{took_more, Takes, Replies}
 use Rattle.conn.specs.Events.{event_of}
 use Rattle.conn.specs.Holds.{Around, call_of, fresh, Holds}
@@ -62,7 +61,13 @@ phase_at g net (stage.Answering to) = phase.Answering to
 phase_at g net stage.Collecting = phase.Collecting
 phase_at g net stage.AtHead = phase.AtHead
 phase_at g net stage.Continuing = phase.Continuing
-phase_at g net (stage.Gathering wanted reader) = phase.Gathering Client wanted reader
+phase_at g net (stage.Gathering side wanted reader) = phase.Gathering side wanted reader
+phase_at g net stage.AtReuse = phase.AtReuse
+phase_at g net (stage.GivingUp b) = phase.GivingUp (behind_of b)
+phase_at g net (stage.Retiring b) = phase.Retiring (behind_of b)
+phase_at g net (stage.Heading side) = phase.Heading side
+phase_at g net (stage.Forwarding side reader standing) = phase.Forwarding side reader standing
+phase_at g net stage.AtResponse = phase.AtResponse
 phase_at g net (stage.Dropping reader) = phase.Dropping reader
 phase_at g net stage.Releasing = phase.Releasing
 phase_at g net (stage.Relaying first) = phase.Relaying

@@ -1,6 +1,7 @@
 -- The two ends of a connection: what came of each and wasn't read, what is queued to it, and what is
 -- known of the server connections, which are made one after another.
-use Rattle.std.specs.Prelude.{ℕ, suc, ◌+◌, ◌-◌, List, [], ◌∷◌, ◌++◌, length, Bool, true, false, ◌&&◌}
+use Rattle.std.specs.Prelude.{ℕ, suc, ◌+◌, ◌-◌, List, [], ◌∷◌, ◌++◌, length, Bool, true, false, ◌&&◌, ◌||◌}
+use Rattle.std.specs.Prelude.{not}
 use Rattle.std.specs.Prelude.{Option, Some, None, if◌then◌else◌}
 use Rattle.px_bytes.specs.declared.addr.Side.{Side}
 use Rattle.px_bytes.specs.declared.addr.Side.TheVariants.{Client, Server}
@@ -9,8 +10,10 @@ use Rattle.core_events.specs.Edges.{accepted_edges}
 use Rattle.conn_trace.specs.Further.{Coming}
 use Rattle.conn_trace.specs.Gates.{room_limit}
 use Rattle.conn_trace.specs.Heard.{taken_by}
-use Rattle.conn_trace.specs.State.{Stream, ServerSide, NoServer, Sought, There, Retired}
+use Rattle.conn_trace.specs.State.{Stream, ServerSide, NoServer, Sought, There, Leaving, Retired}
 use Rattle.conn_trace.specs.State as model
+use Rattle.conn.specs.declared.ends.Behind as given
+use Rattle.conn.specs.declared.ends.Behind.TheVariants as behind
 use Rattle.conn.specs.declared.ends.End.{End}
 use Rattle.conn.specs.declared.ends.Ends.{Ends}
 use Rattle.conn.specs.declared.ends.Link.{Link}
@@ -65,6 +68,11 @@ heard_by false c e = record e { unread = e.unread ++ c.bytes; ended = c.ended }
 abbrev pub heard_end : Coming → End → End
 heard_end c e = heard_by e.ended c e
 
+-- when a server connection is given up
+abbrev pub behind_of : given.Behind → model.Behind
+behind_of behind.BeforeSelect = model.BeforeSelect
+behind_of behind.BehindMessage = model.BehindMessage
+
 abbrev pub is_up : Link → Bool
 is_up link.Up = true
 is_up other = false
@@ -78,18 +86,30 @@ is_given_up other = false
 abbrev pub is_sought : Link → Bool
 is_sought link.Absent = false
 is_sought link.GivenUp = false
+is_sought (link.Leaving b) = false
 is_sought other = true
+
+-- no server is asked for whose answer wasn't taken
+abbrev pub is_settled : Link → Bool
+is_settled k = is_up k || not (is_sought k)
+
+-- it is being given up
+abbrev pub is_leaving : Link → Bool
+is_leaving (link.Leaving b) = true
+is_leaving other = false
 
 -- bytes of a server may come
 abbrev pub has_stream : Link → Bool
 has_stream link.Made = true
 has_stream link.Up = true
+has_stream (link.Leaving b) = true
 has_stream link.GivenUp = true
 has_stream other = false
 
 -- the trace has taken the server connection of this end
 abbrev pub is_taken : Link → Bool
 is_taken link.Up = true
+is_taken (link.Leaving b) = true
 is_taken link.GivenUp = true
 is_taken other = false
 
@@ -106,11 +126,13 @@ server_by link.Asked e = Sought
 server_by link.Refused e = Sought
 server_by link.Made e = Sought
 server_by link.Up e = There (arrived e)
+server_by (link.Leaving b) e = Leaving (behind_of b) (arrived e)
 server_by link.GivenUp e = Retired (arrived e)
 
 abbrev pub link_by : Link → model.Link
 link_by link.Absent = model.Absent
 link_by link.Up = model.Up
+link_by (link.Leaving b) = model.Left (behind_of b)
 link_by link.GivenUp = model.GivenUp
 link_by other = model.Asked
 
@@ -123,16 +145,19 @@ connects_by other e = []
 -- number of the last that the trace took, what was sent to the one of this end, and what each took.
 abbrev pub number_by : Link → ℕ → ℕ
 number_by link.Up earlier = suc earlier
+number_by (link.Leaving b) earlier = suc earlier
 number_by link.GivenUp earlier = suc earlier
 number_by other earlier = earlier
 
 abbrev pub sent_here : Link → ℕ → ℕ
 sent_here link.Up sent = sent
+sent_here (link.Leaving b) sent = sent
 sent_here link.GivenUp sent = sent
 sent_here other sent = 0
 
 abbrev pub servers_by : List (Option ℕ) → Link → Bool → ℕ → List (Option ℕ)
 servers_by earlier link.Made reset n = earlier ++ taken_by reset n ∷ []
 servers_by earlier link.Up reset n = earlier ++ taken_by reset n ∷ []
+servers_by earlier (link.Leaving b) reset n = earlier ++ taken_by reset n ∷ []
 servers_by earlier link.GivenUp reset n = earlier ++ taken_by reset n ∷ []
 servers_by earlier other reset n = earlier

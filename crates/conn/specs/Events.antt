@@ -15,6 +15,8 @@ event_of at.Failed = event.LbFailed
 event_of at.Connected = event.ServerConnected
 event_of at.Request = event.HttpRequest
 event_of at.ServerData = event.ServerData
+event_of at.Response = event.HttpResponse
+event_of at.Leaving = event.ServerClosed
 event_of at.ServerClosed = event.ServerClosed
 event_of at.Closed = event.ClientClosed
 
@@ -23,6 +25,13 @@ abbrev pub is_closed : At → Bool
 is_closed at.ServerClosed = true
 is_closed at.Closed = true
 is_closed other = false
+
+-- they, and the one behind which a server connection is given up
+abbrev pub is_closing : At → Bool
+is_closing at.ServerClosed = true
+is_closing at.Closed = true
+is_closing at.Leaving = true
+is_closing other = false
 
 -- the event of the bytes that a collect of a side asked for
 abbrev pub data_at : Side → At

@@ -3,7 +3,7 @@ use Rattle.std.specs.Prelude.{◌≡◌, ℕ, ◌+◌, List, [], ◌∷◌, ◌+
 use Rattle.std.specs.Prelude.{Option, None}
 use Rattle.px_bytes.specs.declared.addr.Addr.{Addr}
 use Rattle.px_bytes.specs.declared.addr.Side.{Side}
-use Rattle.px_bytes.specs.declared.addr.Side.TheVariants.{Server, Client}
+use Rattle.px_bytes.specs.declared.addr.Side.TheVariants.{Server}
 use Rattle.px_bytes.specs.declared.fault.Reply.{Reply}
 use Rattle.event_order.specs.declared.event.EventName.{EventName}
 use Rattle.irule_net.specs.State.{collected}
@@ -26,7 +26,7 @@ use Rattle.conn.specs.declared.ends.Ends.{Ends}
 use Rattle.conn.specs.declared.ends.Link.TheVariants as link
 use Rattle.conn.specs.declared.stage.Stage.{Stage}
 use Rattle.conn.specs.declared.stage.Stage.TheVariants as stage
-use Rattle.conn.specs.Ends.{arrived, connects_by, fresh_end, has_stream, is_taken, number_by}
+use Rattle.conn.specs.Ends.{arrived, behind_of, connects_by, fresh_end, has_stream, is_taken, number_by}
 use Rattle.conn.specs.Ends.{sent_here, server_by, servers_by}
 use Rattle.conn.specs.Events.{collects_in, event_of}
 use Rattle.conn.specs.Hosts.{Told, seen_host}
@@ -112,8 +112,15 @@ Stands g (stage.Answering to) l c = (l.phase ≡ phase.Answering to) × Between 
 Stands g stage.Collecting l c = (l.phase ≡ phase.Collecting) × Between l c
 Stands g stage.AtHead l c = (l.phase ≡ phase.AtHead) × Between l c
 Stands g stage.Continuing l c = (l.phase ≡ phase.Continuing) × Between l c
-Stands g (stage.Gathering wanted reader) l c =
-    (l.phase ≡ phase.Gathering Client wanted reader) × Between l c
+Stands g (stage.Gathering side wanted reader) l c =
+    (l.phase ≡ phase.Gathering side wanted reader) × Between l c
+Stands g stage.AtReuse l c = (l.phase ≡ phase.AtReuse) × Between l c
+Stands g (stage.GivingUp b) l c = (l.phase ≡ phase.GivingUp (behind_of b)) × Between l c
+Stands g (stage.Retiring b) l c = (l.phase ≡ phase.Retiring (behind_of b)) × Between l c
+Stands g (stage.Heading side) l c = (l.phase ≡ phase.Heading side) × Between l c
+Stands g (stage.Forwarding side reader standing) l c =
+    (l.phase ≡ phase.Forwarding side reader standing) × Between l c
+Stands g stage.AtResponse l c = (l.phase ≡ phase.AtResponse) × Between l c
 Stands g (stage.Dropping reader) l c = (l.phase ≡ phase.Dropping reader) × Between l c
 Stands g stage.Releasing l c = (l.phase ≡ phase.Releasing) × Between l c
 Stands g (stage.Relaying first) l c = (l.phase ≡ phase.Relaying) × Between l c

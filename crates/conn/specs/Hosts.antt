@@ -12,14 +12,16 @@ use Rattle.irule_net.specs.declared.state.Selected.{Selected}
 use Rattle.irule_http.specs.State.{no_http}
 use Rattle.irule_http.specs.declared.state.Http.{Http}
 use Rattle.irule_http.specs.declared.state.Request.{Request}
+use Rattle.irule_http.specs.declared.state.Response.{Response}
 use Rattle.conn_trace.specs.Host.{HostState, http_known}
-use Rattle.conn_trace.specs.Http.{request_begun}
+use Rattle.conn_trace.specs.Http.{request_begun, response_begun}
 use Rattle.conn_trace.specs.Places.{http_begun}
+use Rattle.conn_trace.specs.Routing.{chosen}
 use Rattle.conn_trace.specs.Setup.{Setup}
+use Rattle.conn_trace.specs.Trace.{served_by}
 use Rattle.core_events.specs.declared.note.Note.{Note}
 use Rattle.core_events.specs.declared.note.Note.TheVariants as note
 use Rattle.conn.specs.declared.ends.Link.{Link}
-use Rattle.conn.specs.declared.ends.Link.TheVariants.{Absent}
 use Rattle.conn.specs.declared.events.At.{At}
 use Rattle.conn.specs.declared.events.At.TheVariants.{Accepted}
 use Rattle.conn.specs.declared.host.RuleHost.{RuleHost}
@@ -64,6 +66,17 @@ requested_host r h = record h {
   net = record (begun h.net) { reselects = 0 };
   http = Some (request_begun r (http_known h.http));
 }
+
+-- a response begins, and nothing was wished in its events
+abbrev pub responded_host : Response → RuleHost → RuleHost
+responded_host r h = record h {
+  net = begun h.net;
+  http = Some (response_begun r (http_known h.http));
+}
+
+-- the server connection was made by the choice of the rules
+abbrev pub serving_host : RuleHost → RuleHost
+serving_host h = record h { http = option_map (served_by (chosen (seen_host h))) h.http }
 
 abbrev pub selected_host : Option Selected → RuleHost → RuleHost
 selected_host selected h = record h { net = record h.net { selected = selected } }
@@ -135,10 +148,8 @@ pub record KeepsCollects (e : EventName) (s t : NetState) : Type 0 where
   pub kept : (side : Side) → collects_in side e ≡ false → collected side t ≡ collected side s
 
 -- What its rules are told of a connection: the client's address, that there is a server connection
--- only where one is, and of requests where its virtual server speaks HTTP. With HTTP it asks for no
--- server connection yet.
+-- only where one is, and of requests where its virtual server speaks HTTP.
 pub record Told (g : Setup) (k : Link) (h : RuleHost) : Type 0 where
   pub from : h.net.from ≡ g.from
   pub relays : h.net.relays ≡ true → is_up k ≡ true
   pub spoken : is_some h.http ≡ g.http
-  pub alone : g.http ≡ true → k ≡ Absent

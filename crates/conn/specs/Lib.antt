@@ -14,6 +14,9 @@ pub mod Dropping
 pub mod Seen
 pub mod Queues
 pub mod Acts
+pub mod Forwarding
+pub mod Messages
+pub mod Acted
 pub mod Holds
 pub mod Paid
 pub mod Settling

@@ -91,6 +91,15 @@ abbrev pub read_ends : Side → ℕ → Ends → Ends
 read_ends Client n e = record e { client = read_end n e.client }
 read_ends Server n e = record e { server = read_end n e.server }
 
+-- these bytes are queued to the other side than this one
+abbrev pub sent_ends : Side → List ℕ → Ends → Ends
+sent_ends Client bytes e = record e { server = queue_end bytes e.server }
+sent_ends Server bytes e = record e { client = queue_end bytes e.client }
+
+-- the first n bytes of a side are read, and go to the other as these
+abbrev pub moved_as : Side → ℕ → List ℕ → Ends → Ends
+moved_as side n bytes e = sent_ends side bytes (read_ends side n e)
+
 -- the collect of a side is met: it holds the first n bytes, and their event is entered
 pub record Fires (s : Setup) (c : ℕ) (side : Side) (n : ℕ) (old new : Conn)
     (before after : List Note) : Type 0 where

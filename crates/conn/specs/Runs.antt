@@ -6,7 +6,7 @@ use Rattle.core_events.specs.declared.note.Note.TheVariants.{Ended}
 use Rattle.conn_trace.specs.Costs.{paid_by}
 use Rattle.conn_trace.specs.Item.{Item, calls_in, client_output, server_output}
 use Rattle.conn_trace.specs.Setup as model
-use Rattle.conn_trace.specs.State.{Absent, TraceState, link_of}
+use Rattle.conn_trace.specs.State.{TraceState}
 use Rattle.conn.specs.declared.connection.Conn.{Conn}
 use Rattle.conn.specs.declared.setup.Setup.{Setup}
 use Rattle.conn.specs.declared.stage.Stage.TheVariants as stage
@@ -18,7 +18,7 @@ use Rattle.conn.specs.Paid.{Paid}
 use Rattle.conn.specs.RunsItems.{Passes, RunsItems, asks, out_of_memory}
 use Rattle.conn.specs.Setups.{Serves}
 use Rattle.conn.specs.Queues.{dropped_by}
-use Rattle.conn.specs.Servers.{gives_up, queue_along, queue_at_server, servers_output}
+use Rattle.conn.specs.Servers.{queue_along, queue_at_server, servers_output}
 use Rattle.conn.specs.Settling.{closing, noted_in, over_in, rest_notes}
 use Rattle.conn.specs.Stages.{is_asking}
 
@@ -44,8 +44,6 @@ pub record StopsWithout (g : model.Setup) (a : Around) (l : TraceState) (c : ℕ
   pub more : List Item
   pub at : TraceState
   pub passes : Passes g a.took l more at
-  pub kept : gives_up more ≡ false
-  pub alone : g.http ≡ true → link_of at.server ≡ Absent
   pub to_none : server_output 0 more ≡ []
   pub no_call : calls_in more ≡ []
   pub noted : group ≡ out_of_memory c old.ends.edges l.sent a.took more

@@ -1,7 +1,7 @@
 -- What a connection gives in one Run, from where its trace stands: the code's promise and the
 -- scheduler's move alike.
 use Rattle.std.specs.Prelude.{◌≡◌, ℕ, List, [], ◌∷◌, ◌++◌, Bool, true, false, Some, None}
-use Rattle.std.specs.Prelude.{◌&&◌, if◌then◌else◌, nat_lt}
+use Rattle.std.specs.Prelude.{◌&&◌, ◌||◌, if◌then◌else◌, nat_lt}
 use Rattle.px_bytes.specs.declared.addr.Side.TheVariants.{Client, Server}
 use Rattle.core_events.specs.Edges.{edges_noted}
 use Rattle.core_events.specs.declared.edges.Edges.{Edges}
@@ -16,12 +16,13 @@ use Rattle.conn_trace.specs.Gates.{Counts, TakenCounts, Met}
 use Rattle.conn_trace.specs.Item.{Item, CutBy, Finished, calls_in, choices_in}
 use Rattle.conn_trace.specs.Further.{choosing, longer}
 use Rattle.conn_trace.specs.HeardLaws.{cut_in, taken_by_items}
+use Rattle.conn_trace.specs.Laws.{cut_is_taken}
 use Rattle.conn_trace.specs.Queries.{is_reset}
 use Rattle.conn_trace.specs.Setup.{Setup}
 use Rattle.conn_trace.specs.Places.{is_up}
-use Rattle.conn_trace.specs.State.{Absent, TraceState, ForReply, Waits, link_of}
+use Rattle.conn_trace.specs.State.{TraceState, ForReply, Waits, link_of}
 use Rattle.conn_trace.specs.Trace.{next_item, Unfolds, GivesNoMore}
-use Rattle.conn.specs.Servers.{gives_up, run_notes}
+use Rattle.conn.specs.Servers.{run_notes}
 use Rattle.conn.specs.Settling.{closing, is_drained, resting}
 use Rattle.conn.specs.declared.turn.ConnTurn.{ConnTurn}
 use Rattle.conn.specs.declared.turn.ConnTurn.TheVariants as turn
@@ -43,11 +44,14 @@ licenses ClientReset at took = is_reset at.sent took Client
 licenses ServerReset at took = is_up (link_of at.server) && is_reset at.sent took Server
 licenses Idle at took = false
 
--- the cut that is due where it rests, while it hasn't finished
-abbrev pub is_cut : TakenCounts → TraceState → Bool
-is_cut took at =
-    if at.finished then false
-    else (if licenses ClientReset at took then true else licenses ServerReset at took)
+-- A cut for this reason is due where it rests: what was told licenses it, and the trace takes it. With
+-- HTTP the server's reset ends but a wait for its bytes.
+abbrev pub cut_due : Setup → CutReason → TakenCounts → TraceState → Bool
+cut_due g reason took at =
+    licenses reason at took && cut_is_taken g (record { reason = reason; took = took }) at
+
+abbrev pub is_cut : Setup → TakenCounts → TraceState → Bool
+is_cut g took at = cut_due g ClientReset took at || cut_due g ServerReset took at
 
 -- where a Run stops: in the middle, at a call, where no more may be given and no cut is due, or at
 -- the end
@@ -56,7 +60,7 @@ StopsAt g took at turn.More = Unit {0}
 StopsAt g took at (turn.Asks call) = next_item g at ≡ Waits (ForReply call)
 StopsAt g took at turn.NotYet =
     GivesNoMore false at.sent took (next_item g at)
-    × ((is_drained g took at ≡ false) × (is_cut took at ≡ false))
+    × ((is_drained g took at ≡ false) × (is_cut g took at ≡ false))
 StopsAt g took at turn.Over = is_drained g took at ≡ true
 
 -- one that stops in the middle gave an item, or stands inside a body
@@ -106,15 +110,13 @@ told_behind t g took at c e dropped =
     if is_resting t then resting g took at c e dropped else []
 
 -- It gave these items, and stops there; its notes are those of the items, with the closings of server
--- connections that were given up, and then what is due where it rests. Before it the outside had been told so much of its ends. The only call among them is the
--- one at which it stops, and no server connection is given up yet; with HTTP none is asked for yet. Where it stops in the middle
+-- connections that were given up, and then what is due where it rests. Before it the outside had been told
+-- so much of its ends. The only call among them is the one at which it stops. Where it stops in the middle
 -- without an item it stands inside a body.
 pub record RunsItems (g : Setup) (took : TakenCounts) (e : Edges) (l : TraceState) (c : ℕ)
     (more : List Item) (at : TraceState) (group : List Note) (t : ConnTurn) (dropped : ℕ)
     : Type 0 where
   pub passes : Passes g took l more at
-  pub kept : gives_up more ≡ false
-  pub alone : g.http ≡ true → link_of at.server ≡ Absent
   pub noted : group
       ≡ run_notes c l.sent took more
       ++ told_behind t g took at c (edges_noted (run_notes c l.sent took more) e) dropped

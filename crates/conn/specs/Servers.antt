@@ -47,8 +47,11 @@ queue_along [] q = q
 queue_along (i ∷ items) q = queue_along items (queue_behind i q)
 
 -- a server connection that is given up is closed there where it took all
+abbrev pub closed_notes : ℕ → (taken : Bool) → List Note
+closed_notes c taken = note_if taken (CloseServer c)
+
 abbrev pub closed_behind : ℕ → Counts → TakenCounts → Item → List Note
-closed_behind c sent took Retires = note_if (nat_eq (to_take sent took Server) 0) (CloseServer c)
+closed_behind c sent took Retires = closed_notes c (nat_eq (to_take sent took Server) 0)
 closed_behind c sent took other = []
 
 abbrev pub is_retires : Item → Bool

@@ -10,7 +10,7 @@ use Rattle.core_events.specs.Edges.{edge_of, edges_noted}
 use Rattle.conn_trace.specs.Gates.{Counts, TakenCounts, other, taken_of, to_take}
 use Rattle.conn_trace.specs.Queries.{half_close_due}
 use Rattle.conn_trace.specs.Setup as model
-use Rattle.conn_trace.specs.State.{Link, Up, GivenUp, link_of, TraceState, Next, Does, Waits, Over}
+use Rattle.conn_trace.specs.State.{Link, Up, Left, GivenUp, link_of, TraceState, Next, Does, Waits, Over}
 use Rattle.conn_trace.specs.Trace.{next_item}
 use Rattle.core_events.specs.declared.edges.Edges.{Edges}
 use Rattle.core_events.specs.declared.edges.EdgeState.{EdgeState}
@@ -164,6 +164,8 @@ lost_by (Some taken) n = 0
 
 abbrev pub server_lost : Link → Around → Counts → ℕ
 server_lost Up a sent =
+    lost_by (taken_of a.took.servers sent.number) (sent.server - a.counted_server)
+server_lost (Left b) a sent =
     lost_by (taken_of a.took.servers sent.number) (sent.server - a.counted_server)
 server_lost GivenUp a sent =
     lost_by (taken_of a.took.servers sent.number) (sent.server - a.counted_server)

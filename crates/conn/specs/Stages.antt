@@ -1,5 +1,5 @@
 -- Where a connection goes.
-use Rattle.std.specs.Prelude.{◌≡◌, ℕ, zero, suc, List, [], ◌∷◌, Bool, true, false, ◌&&◌, ◌||◌, not}
+use Rattle.std.specs.Prelude.{◌≡◌, ℕ, zero, suc, List, [], ◌∷◌, Bool, true, false, ◌&&◌, not}
 use Rattle.std.specs.Prelude.{Option, Some, None, is_some}
 use Rattle.std.specs.Prelude.{if◌then◌else◌}
 use Rattle.px_bytes.specs.declared.addr.Addr.{Addr}
@@ -19,10 +19,15 @@ use Rattle.conn_trace.specs.Host.{http_known}
 use Rattle.conn_trace.specs.Http.{wanted_more}
 use Rattle.conn_trace.specs.Item.{Reason}
 use Rattle.conn_trace.specs.Item as reason
+use Rattle.conn_trace.specs.Routing.{is_left, is_spent_link}
 use Rattle.conn_trace.specs.Selected.{addr_of}
+use Rattle.conn_trace.specs.SentBodies.{opens}
 use Rattle.core_events.specs.declared.note.Cause.{Cause}
 use Rattle.core_events.specs.declared.note.Cause.TheVariants as cause
+use Rattle.conn.specs.declared.ends.Behind.{Behind}
+use Rattle.conn.specs.declared.ends.Behind.TheVariants as behind
 use Rattle.conn.specs.declared.ends.Link.{Link}
+use Rattle.conn.specs.declared.ends.Link.TheVariants as link
 use Rattle.conn.specs.declared.events.At.{At}
 use Rattle.conn.specs.declared.events.At.TheVariants as at
 use Rattle.conn.specs.declared.host.RuleHost.{RuleHost}
@@ -32,8 +37,9 @@ use Rattle.conn.specs.declared.stage.Stage.{Stage}
 use Rattle.conn.specs.declared.stage.Stage.TheVariants as stage
 use Rattle.conn.specs.declared.setup.Place.{Place}
 use Rattle.conn.specs.declared.setup.Setup.{Setup}
-use Rattle.conn.specs.Ends.{is_sought, is_up}
-use Rattle.conn.specs.Events.{event_of, is_closed, is_data, is_event_of}
+use Rattle.conn.specs.Ends.{is_leaving, is_settled, is_sought, is_up}
+use Rattle.conn.specs.Events.{event_of, is_closed, is_closing, is_data, is_event_of}
+use Rattle.conn.specs.Hosts.{seen_host}
 use Rattle.conn.specs.Setups.{places_at}
 
 abbrev pub reason_for : Finish → Reason
@@ -80,10 +86,14 @@ abbrev pub data_stage : (up released : Bool) → Stage
 data_stage true released = stage.Relaying Server
 data_stage false released = if released then stage.Choosing else stage.Collecting
 
--- behind SERVER_CONNECTED, by the bytes that were released before
-abbrev pub connected_stage : (loose : List ℕ) → Stage
-connected_stage [] = stage.Relaying Client
-connected_stage (b ∷ bs) = stage.Releasing
+-- behind SERVER_CONNECTED, by whether it speaks HTTP, and by the bytes that were released before
+abbrev pub loose_stage : (loose : List ℕ) → Stage
+loose_stage [] = stage.Relaying Client
+loose_stage (b ∷ bs) = stage.Releasing
+
+abbrev pub connected_stage : (http : Bool) → (loose : List ℕ) → Stage
+connected_stage true loose = stage.Heading Client
+connected_stage false loose = loose_stage loose
 
 -- behind LB_FAILED, where a rule may have answered a request
 abbrev pub failed_stage : Option Bool → (reselects : Bool) → Http → Stage
@@ -91,21 +101,37 @@ failed_stage (Some closing) reselects http = stage.Dropping http.reader
 failed_stage None reselects http =
     if reselects then stage.Choosing else stage.Finishing finish.Unselected
 
--- a request goes on to its server, or its body is gathered first
-abbrev pub gathering_stage : ℕ → Http → Stage
-gathering_stage zero http = stage.Choosing
-gathering_stage (suc n) http = stage.Gathering (suc n) http.reader
+abbrev pub http_in : RuleHost → Http
+http_in h = http_known h.http
 
-abbrev pub asked_stage : Http → Stage
-asked_stage http = gathering_stage (wanted_more http) http
+-- a request goes to the server that is there, unless that is given up first, or another is selected
+abbrev pub routed_stage : (up left : Bool) → Stage
+routed_stage false left = stage.Choosing
+routed_stage true true = stage.GivingUp behind.BeforeSelect
+routed_stage true false = stage.AtReuse
+
+-- its body is gathered first, where so much of it is wanted
+abbrev pub gathering_stage : Side → ℕ → Http → Stage → Stage
+gathering_stage side zero http st = st
+gathering_stage side (suc n) http st = stage.Gathering side (suc n) http.reader
+
+abbrev pub asked_stage : Link → RuleHost → Stage
+asked_stage link h =
+    gathering_stage Client (wanted_more (http_in h)) (http_in h)
+    (routed_stage (is_up link) (is_left (seen_host h)))
 
 -- A rule answered, or the client is told first to go on where it waits for that. The body of one that
 -- was answered and waits never comes.
-abbrev pub request_stage : Option Bool → (expects : Bool) → Http → Stage
-request_stage (Some closing) true http = stage.Finishing finish.Closed
-request_stage (Some closing) false http = stage.Dropping http.reader
-request_stage None true http = stage.Continuing
-request_stage None false http = asked_stage http
+abbrev pub request_stage : Option Bool → (expects : Bool) → Link → RuleHost → Stage
+request_stage (Some closing) true link h = stage.Finishing finish.Closed
+request_stage (Some closing) false link h = stage.Dropping (http_in h).reader
+request_stage None true link h = stage.Continuing
+request_stage None false link h = asked_stage link h
+
+-- a rule answered in place of the response, or that is sent on, its body gathered first
+abbrev pub response_stage : Option Bool → Http → Stage
+response_stage (Some closing) http = stage.GivingUp behind.BehindMessage
+response_stage None http = gathering_stage Server (wanted_more http) http (stage.Heading Server)
 
 -- behind a request that was answered the next one is read, or the connection closes
 abbrev pub next_by : (closes : Bool) → Stage
@@ -115,8 +141,29 @@ next_by false = stage.AtHead
 abbrev pub next_stage : Http → Stage
 next_stage http = next_by (client_closes http)
 
-abbrev pub http_in : RuleHost → Http
-http_in h = http_known h.http
+-- a message of a side was sent on whole
+abbrev pub spent_stage : (spent : Bool) → Http → Stage
+spent_stage true http = stage.GivingUp behind.BehindMessage
+spent_stage false http = next_stage http
+
+abbrev pub message_stage : Side → RuleHost → Stage
+message_stage Client h = stage.AtResponse
+message_stage Server h = spent_stage (is_spent_link (seen_host h)) (http_in h)
+
+-- behind a head and what was gathered
+abbrev pub headed_stage : Side → RuleHost → (whole : Bool) → Stage
+headed_stage side h true = message_stage side h
+headed_stage side h false = stage.Forwarding side (http_in h).reader (opens (http_in h))
+
+-- the closing event of a server connection that is given up has run
+abbrev pub leaving_stage : Link → Stage
+leaving_stage (link.Leaving b) = stage.Retiring b
+leaving_stage other = stage.Choosing
+
+-- it was given up
+abbrev pub retired_stage : Behind → Http → Stage
+retired_stage behind.BeforeSelect http = stage.Choosing
+retired_stage behind.BehindMessage http = next_stage http
 
 -- where it goes behind an event that nothing ended
 abbrev pub goes_on_stage : At → Link → RuleHost → Stage
@@ -125,10 +172,12 @@ goes_on_stage at.ClientData link h = data_stage (is_up link) h.net.wishes.releas
 goes_on_stage at.Selected link h = connecting_stage h.net.selected
 goes_on_stage at.Failed link h =
     failed_stage (http_in h).answer h.net.wishes.reselects (http_in h)
-goes_on_stage at.Connected link h = connected_stage h.net.loose
+goes_on_stage at.Connected link h = connected_stage (is_some h.http) h.net.loose
 goes_on_stage at.Request link h =
-    request_stage (http_in h).answer (expects_by (http_in h).came) (http_in h)
+    request_stage (http_in h).answer (expects_by (http_in h).came) link h
 goes_on_stage at.ServerData link h = stage.Relaying Client
+goes_on_stage at.Response link h = response_stage (http_in h).answer (http_in h)
+goes_on_stage at.Leaving link h = leaving_stage link
 goes_on_stage at.ServerClosed link h = stage.Draining
 goes_on_stage at.Closed link h = stage.Draining
 
@@ -136,11 +185,15 @@ abbrev pub unless_ended : Option Ending → Stage → Stage
 unless_ended None st = st
 unless_ended (Some ending) st = ended_stage ending
 
+-- where all bodies of an event have ended that leaves it going on; what they wish as its server
+-- connection is given up ends nothing
+abbrev pub open_stage : At → Link → RuleHost → Stage
+open_stage at.Leaving link h = leaving_stage link
+open_stage other link h = unless_ended h.net.wishes.ends (goes_on_stage other link h)
+
 -- where all bodies of an event have ended; behind the one that closes its server another comes
 abbrev pub after_stage : At → Link → RuleHost → Stage
-after_stage at link h =
-    if is_closed at then stage.Draining
-    else unless_ended h.net.wishes.ends (goes_on_stage at link h)
+after_stage at link h = if is_closed at then stage.Draining else open_stage at link h
 
 -- where an event is entered
 abbrev pub entered_by : At → Link → RuleHost → List Place → Stage
@@ -222,15 +275,18 @@ InEvent other event = Unit {0}
 -- once it was made. The client's bytes are collected but while a server is asked for. The closing
 -- events have no gate, and a cut finishes at once.
 abbrev pub at_fits : At → Link → Bool
-at_fits at.ClientData link = is_up link || not (is_sought link)
+at_fits at.ClientData link = is_settled link
 at_fits at.Connected link = is_up link
 at_fits at.ServerData link = is_up link
+at_fits at.Request link = is_settled link
+at_fits at.Response link = is_up link
+at_fits at.Leaving link = is_leaving link
 at_fits at.ServerClosed link = true
 at_fits at.Closed link = true
 at_fits other link = not (is_sought link)
 
 abbrev pub fits : Stage → Link → Bool
-fits (stage.Gated at) link = not (is_closed at) && at_fits at link
+fits (stage.Gated at) link = not (is_closing at) && at_fits at link
 fits (stage.Running at n) link = at_fits at link
 fits (stage.Asking at n) link = at_fits at link
 fits (stage.Failing at n kind line) link = at_fits at link
@@ -240,10 +296,16 @@ fits (stage.Chosen addr) link = not (is_sought link)
 fits (stage.Connecting to) link = not (is_sought link)
 fits (stage.Answering to) link = is_sought link && not (is_up link)
 fits stage.Collecting link = not (is_sought link)
-fits stage.AtHead link = not (is_sought link)
-fits stage.Continuing link = not (is_sought link)
-fits (stage.Gathering wanted reader) link = not (is_sought link)
-fits (stage.Dropping reader) link = not (is_sought link)
+fits stage.AtHead link = is_settled link
+fits stage.Continuing link = is_settled link
+fits (stage.Gathering side wanted reader) link = is_settled link
+fits (stage.Dropping reader) link = is_settled link
+fits stage.AtReuse link = is_up link
+fits (stage.GivingUp b) link = is_up link
+fits (stage.Retiring b) link = is_leaving link
+fits (stage.Heading side) link = is_up link
+fits (stage.Forwarding side reader standing) link = is_up link
+fits stage.AtResponse link = is_up link
 fits stage.Releasing link = is_up link
 fits (stage.Relaying first) link = is_up link
 fits (stage.Finishing (finish.Cut reason)) link = false

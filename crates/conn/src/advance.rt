@@ -1,19 +1,21 @@
 // One action of a connection.
 
-ghost use Rattle.std.specs.Prelude.{◌≡◌, ◌+◌, ◌-◌, ◌<◌, ◌≤◌, ◌∷◌, ◌++◌, [], length, IfOk, OnOk};
+ghost use Rattle.std.specs.Prelude.{◌≡◌, ◌+◌, ◌-◌, ◌<◌, ◌≤◌, length, IfOk, OnOk};
 ghost use Rattle.std.specs.Prelude.{OnErr, true, false};
-ghost use Rattle.conn.specs.Acts.{Acted, BehindFault, LogsFault, PassesGate, Rests, cut_of};
+ghost use Rattle.conn.specs.Acted.{Acted, LogsFault};
+ghost use Rattle.conn.specs.Acts.{BehindFault, PassesGate, Rests, WaitsFor, cut_by, server_cuts};
 ghost use Rattle.conn.specs.Stages.{is_running};
 
 use crate::connection::Conn;
 use crate::ends::ROOM;
 use crate::events::At;
+use crate::forward::Standing;
 use crate::setup::Setup;
 use crate::stage::{Finish, Stage};
 use crate::turn::Act;
 use core_events::{CutReason, Note, Notes};
 use frames::Moves;
-use px_bytes::{FaultKind, M, Memory, Steps};
+use px_bytes::{FaultKind, M, Memory, Side, Steps};
 use std::alloc::Global;
 use std::mem;
 use std::sync::ledger::Ledger;
@@ -71,7 +73,7 @@ impl Conn {
             Stage::Gated { at } => Ok(self.pass_gate(setup, number, at, notes)),
             Stage::Choosing => self.choose(alloc, setup),
             Stage::Connecting(to) => self.connect(alloc, setup, number, to, notes),
-            Stage::Answering(_) => Ok(self.answer(setup, number, notes)),
+            Stage::Answering(_) => self.answer(setup, number, notes),
             Stage::Collecting => self.collect(setup, number, notes),
             Stage::Releasing => self.release(alloc, setup, number, notes),
             Stage::Relaying(first) => self.relay(setup, number, first, notes),
@@ -91,6 +93,28 @@ impl Conn {
             Stage::Gathering { .. } => Err(Memory),
             Stage::Continuing => self.tell_to_go_on(setup, number, notes),
             Stage::Dropping(reader) => self.drop_body(setup, number, reader, notes),
+            Stage::AtReuse => {
+                self.reuse(number, notes);
+                Ok(Act::Goes)
+            }
+            Stage::GivingUp(behind) => {
+                self.give_up(setup, behind);
+                Ok(Act::Goes)
+            }
+            Stage::Retiring(behind) => {
+                self.retire(number, behind, notes);
+                Ok(Act::Goes)
+            }
+            Stage::Heading(side) => self.send_head(alloc, setup, number, side, notes),
+            Stage::Forwarding {
+                side,
+                reader,
+                standing,
+            } => {
+                let place = Standing { reader, standing };
+                self.forward_body(alloc, setup, number, side, place, notes)
+            }
+            Stage::AtResponse => self.read_response(alloc, setup, number, notes),
             Stage::Running { .. } | Stage::Asking { .. } | Stage::Selecting => Ok(Act::Rests),
             Stage::Draining | Stage::OutOfMemory | Stage::Dropped(_) => Ok(Act::Rests),
         }
@@ -125,7 +149,26 @@ impl Conn {
         ensures room { notes.new.spare + length notes.new.items
             ≡ notes.old.spare + length notes.old.items }
     {
-        match self.cut() {
+        self.wait_or_cut(setup, number, Side::Client, notes)
+    }
+
+    /// It waits for bytes of a side: with HTTP a reset of the server that was told cuts it there alone.
+    pub(crate) fn wait_or_cut(
+        &mut self,
+        setup: &Setup<'_>,
+        number: u32,
+        side: Side,
+        notes: &mut Notes,
+    ) -> Act
+        requires { 1 ≤ notes.old.spare }
+        ensures waits { WaitsFor side setup.now number self.old self.new
+            notes.old.items notes.new.items result }
+        ensures spare { notes.old.spare ≤ notes.new.spare + 1 }
+        ensures grows { length notes.old.items ≤ length notes.new.items }
+        ensures room { notes.new.spare + length notes.new.items
+            ≡ notes.old.spare + length notes.old.items }
+    {
+        match self.cut(side == Side::Server) {
             Some(reason) => {
                 self.finish(setup, number, Finish::Cut(reason), notes);
                 Act::Goes
@@ -134,9 +177,9 @@ impl Conn {
         }
     }
 
-    // The reset that cuts it.
-    fn cut(&self) -> Option<CutReason>
-        ensures { result ≡ cut_of self.now }
+    // The reset that cuts it, by whether it waits for bytes of its server.
+    fn cut(&self, waits: bool) -> Option<CutReason>
+        ensures { result ≡ cut_by waits self.now }
     {
         if self.stage.has_finished() {
             return None;
@@ -144,10 +187,16 @@ impl Conn {
         if self.ends.client.reset {
             return Some(CutReason::ClientReset);
         }
-        if self.ends.link.is_up() && self.ends.server.reset {
+        if self.is_cut_by_server(waits) {
             return Some(CutReason::ServerReset);
         }
         None
+    }
+
+    fn is_cut_by_server(&self, waits: bool) -> bool
+        ensures { result ≡ server_cuts waits self.now }
+    {
+        self.ends.link.is_up() && self.ends.server.reset && (waits || self.host.http.is_none())
     }
 
     // Logs the fault that a body left.
@@ -179,7 +228,7 @@ impl Conn {
     fn behind_fault(&mut self, setup: &Setup<'_>, at: At, next: usize, kind: FaultKind)
         ensures { BehindFault setup.now at next kind self.old self.new }
     {
-        if at.is_closed() {
+        if at.is_closing() {
             self.next_body(setup, at, next);
         } else {
             self.stage = Stage::Finishing(Finish::Fault(kind));

@@ -1,7 +1,6 @@
 // Bytes are collected, and released.
 
-ghost use Rattle.std.specs.Prelude.{◌≡◌, ◌+◌, ◌≤◌, ◌++◌, length, take, IfOk, OnErr, OnOk};
-ghost use Rattle.irule_net.specs.State.{collected};
+ghost use Rattle.std.specs.Prelude.{◌≡◌, ◌+◌, ◌≤◌, length, IfOk, OnErr, OnOk};
 ghost use Rattle.conn_trace.specs.Relay.{meets};
 ghost use Rattle.conn.specs.Acts.{Collects, PassesReleased};
 ghost use Rattle.conn.specs.Ends.{end_of};

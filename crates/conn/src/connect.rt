@@ -10,12 +10,11 @@ use crate::setup::Setup;
 use crate::stage::Stage;
 use crate::turn::Act;
 use core_events::{Note, Notes};
-use px_bytes::{Addr, M, Memory};
+use px_bytes::{Addr, M};
 use std::alloc::Global;
 
 impl Conn {
-    /// Asks the server for a connection, once the one before took all. With HTTP none is asked for yet: it
-    /// ends as where memory is refused.
+    /// Asks the server for a connection, once the one before took all.
     pub(crate) fn connect(
         &mut self,
         alloc: Global,
@@ -34,9 +33,6 @@ impl Conn {
         ensures room { notes.new.spare + length notes.new.items
             ≡ notes.old.spare + length notes.old.items }
     {
-        if self.host.http.is_some() {
-            return Err(Memory);
-        }
         if self.ends.server.pending() > 0 {
             return Ok(self.rest_or_cut(setup, number, notes));
         }
@@ -47,10 +43,12 @@ impl Conn {
     }
 
     /// Takes the answer whether it is made, if that came.
-    pub(crate) fn answer(&mut self, setup: &Setup<'_>, number: u32, notes: &mut Notes) -> Act
+    pub(crate) fn answer(&mut self, setup: &Setup<'_>, number: u32, notes: &mut Notes) -> M<Act>
         requires { 1 ≤ notes.old.spare }
-        ensures answers { Answers setup.now number self.old self.new
-            notes.old.items notes.new.items result }
+        ensures ok { IfOk result (λ act. Answers setup.now number self.old self.new
+            notes.old.items notes.new.items act) }
+        ensures err { OnErr result (notes.new ≡ notes.old) }
+        ensures kept { OnErr result (self.new.ends.edges ≡ self.old.ends.edges) }
         ensures spare { notes.old.spare ≤ notes.new.spare + 1 }
         ensures grows { length notes.old.items ≤ length notes.new.items }
         ensures room { notes.new.spare + length notes.new.items
@@ -58,18 +56,17 @@ impl Conn {
     {
         match self.ends.link {
             Link::Made => {
+                self.host.serve()?;
                 self.ends.link = Link::Up;
                 self.enter(setup, At::Connected);
-                Act::Goes
+                Ok(Act::Goes)
             }
             Link::Refused => {
                 self.ends.link = Link::Absent;
                 self.enter(setup, At::Failed);
-                Act::Goes
+                Ok(Act::Goes)
             }
-            Link::Absent | Link::Asked | Link::Up | Link::GivenUp => self.rest_or_cut(
-                setup, number, notes,
-            ),
+            _ => Ok(self.rest_or_cut(setup, number, notes)),
         }
     }
 }

@@ -1,11 +1,13 @@
 // The two ends of a connection.
 
-ghost use Rattle.std.specs.Prelude.{◌≡◌, ◌+◌, ◌≤◌, ◌<◌, ◌^◌, [], true, false, length, take, drop, IfOk, OnOk, OnErr};
+ghost use Rattle.std.specs.Prelude.{◌≡◌, ◌+◌, ◌-◌, ◌≤◌, ◌<◌, ◌^◌, [], true, false, length, take, drop, IfOk, OnOk, OnErr};
 ghost use Rattle.conn.specs.Acts.{asked_ends};
 ghost use Rattle.conn.specs.Calls.{connected_ends, ended_ends, reset_ends, took_ends};
 ghost use Rattle.conn.specs.Ends.{end_of, fresh_end, fresh_ends, has_stream, heard_end, hears_at, is_done};
 ghost use Rattle.conn.specs.Ends.{is_given_up, is_sought, is_up, lost_at, queue_of, queued_in, room_left};
-ghost use Rattle.conn.specs.Relaying.{passes_now, read_ends};
+ghost use Rattle.conn.specs.Forwarding.{ends_room, waiting};
+ghost use Rattle.conn.specs.Relaying.{passes_now, read_ends, sent_ends};
+ghost use Rattle.conn_trace.specs.Gates.{room_limit};
 
 use crate::queue::Queue;
 use crate::unread::Unread;
@@ -132,6 +134,15 @@ impl End {
     }
 }
 
+/// When a server connection is given up.
+#[derive(Clone, Copy, PartialEq, Eq)]
+pub enum Behind {
+    /// Before another server is selected.
+    BeforeSelect,
+    /// Behind a response, or an answer in its events.
+    BehindMessage,
+}
+
 /// Where the server connection is. Several are made one after another.
 #[derive(Clone, Copy, PartialEq, Eq)]
 pub enum Link {
@@ -143,6 +154,8 @@ pub enum Link {
     /// It was made, and nothing was done about that yet.
     Made,
     Up,
+    /// Its closing event runs before it is given up.
+    Leaving(Behind),
     /// It is given up, and may still take what is queued to it.
     GivenUp,
 }
@@ -164,14 +177,17 @@ impl Link {
     pub fn is_sought(self) -> bool
         ensures { result ≡ is_sought self }
     {
-        !matches!(self, Link::Absent | Link::GivenUp)
+        matches!(self, Link::Asked | Link::Refused | Link::Made | Link::Up)
     }
 
     /// Bytes of a server may come.
     pub fn has_stream(self) -> bool
         ensures { result ≡ has_stream self }
     {
-        matches!(self, Link::Made | Link::Up | Link::GivenUp)
+        matches!(
+            self,
+            Link::Made | Link::Up | Link::Leaving(_) | Link::GivenUp
+        )
     }
 }
 
@@ -246,6 +262,34 @@ impl Ends {
         match side {
             Side::Client => &self.client,
             Side::Server => &self.server,
+        }
+    }
+
+    /// Whether there is room for what a side sends on.
+    pub(crate) fn has_room(&self, side: Side) -> bool
+        ensures { result ≡ ends_room side self.now }
+    {
+        self.room_for(side) > 0
+    }
+
+    /// How many bytes of a side may be sent on.
+    pub(crate) fn room_for(&self, side: Side) -> usize
+        ensures { result ≡ room_limit - waiting side self.now }
+    {
+        match side {
+            Side::Client => self.server.room(),
+            Side::Server => self.client.room(),
+        }
+    }
+
+    /// These bytes go to the other side than this one.
+    pub(crate) fn send(&mut self, side: Side, bytes: &[u8]) -> M<()>
+        ensures ok { OnOk result (self.new ≡ sent_ends side bytes.now self.old) }
+        ensures edges { self.new.edges ≡ self.old.edges }
+    {
+        match side {
+            Side::Client => self.server.queued.push(bytes),
+            Side::Server => self.client.queued.push(bytes),
         }
     }
 

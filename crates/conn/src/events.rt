@@ -1,7 +1,7 @@
 // The events that a connection comes to.
 
 ghost use Rattle.std.specs.Prelude.{◌≡◌};
-ghost use Rattle.conn.specs.Events.{data_at, event_of, is_closed, is_data, is_event_of};
+ghost use Rattle.conn.specs.Events.{data_at, event_of, is_closed, is_closing, is_data, is_event_of};
 
 use event_order::EventName;
 use px_bytes::Side;
@@ -21,8 +21,12 @@ pub enum At {
     Connected,
     /// A request's head was read.
     Request,
+    /// The head of a response was read.
+    Response,
     /// A collect of its server's bytes was met.
     ServerData,
+    /// Its server connection is given up.
+    Leaving,
     /// It is closed to its server.
     ServerClosed,
     /// It is closed to its client.
@@ -42,7 +46,8 @@ impl At {
             At::Connected => EventName::ServerConnected,
             At::Request => EventName::HttpRequest,
             At::ServerData => EventName::ServerData,
-            At::ServerClosed => EventName::ServerClosed,
+            At::Response => EventName::HttpResponse,
+            At::Leaving | At::ServerClosed => EventName::ServerClosed,
             At::Closed => EventName::ClientClosed,
         }
     }
@@ -52,6 +57,13 @@ impl At {
         ensures { result ≡ is_closed self }
     {
         matches!(self, At::ServerClosed | At::Closed)
+    }
+
+    /// It runs as a connection is closed, or once it has finished.
+    pub fn is_closing(self) -> bool
+        ensures { result ≡ is_closing self }
+    {
+        matches!(self, At::Leaving | At::ServerClosed | At::Closed)
     }
 
     /// The event of the bytes that a collect of a side asked for.

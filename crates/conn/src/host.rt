@@ -1,7 +1,7 @@
 // The host of a connection's rules.
 
 ghost use Rattle.std.specs.Prelude.{◌≡◌, ◌++◌, ◌&&◌, [], MatchResult, OnErr, OnOk, Option};
-ghost use Rattle.std.specs.Prelude.{is_some, option_map};
+ghost use Rattle.std.specs.Prelude.{is_some, option_map, true};
 ghost use Rattle.irule_http.specs.Commands.{http_step};
 ghost use Rattle.irule_http.specs.declared.state.Http.{Http};
 ghost use Rattle.irule_net.specs.Commands.{is_http};
@@ -9,18 +9,20 @@ ghost use Rattle.irule_net.specs.State.{collected};
 ghost use Rattle.px_bytes.specs.Answered.{DidStep};
 ghost use Rattle.conn_trace.specs.Host.{commands, first_word};
 ghost use Rattle.conn_trace.specs.Host as model;
+ghost use Rattle.conn_trace.specs.Http.{response_begun};
 ghost use Rattle.conn_trace.specs.Places.{http_begun};
 ghost use Rattle.conn.specs.Hosts.{answer_made, begun_host, cleared_host, fired_host, fresh_host};
-ghost use Rattle.conn.specs.Hosts.{fresh_http, released_host, requested_host};
-ghost use Rattle.conn.specs.Hosts.{seen_at, seen_net, selected_host};
+ghost use Rattle.conn.specs.Hosts.{fresh_http, released_host, requested_host, responded_host};
+ghost use Rattle.conn.specs.Hosts.{seen_at, seen_net, selected_host, serving_host};
 
 use crate::events::At;
+use crate::routing::chosen;
 use conn_trace::is_there;
 use event_order::EventName;
 use frames::Host;
 use http_frames::start;
-use http_heads::RequestHead;
-use irule_http::{Http, Request, http_command};
+use http_heads::{RequestHead, ResponseHead};
+use irule_http::{Http, Request, Response, http_command};
 use irule_net::{Asks, Collected, Effects, Groups, NetState, Selected, net_command};
 use px_bytes::{HostAnswer, M, Side, TclFault, Text, Texts};
 use std::alloc::Global;
@@ -96,6 +98,28 @@ impl RuleHost {
         self.net.reselects = 0;
     }
 
+    /// A response begins, with its head for rules, where HTTP is spoken.
+    pub fn begin_response(&mut self, alloc: Global, response: Response, head: ResponseHead)
+        requires spoken { is_some self.old.http ≡ true }
+        requires same { head ≡ response.head }
+        ensures { self.new ≡ responded_host response self.old }
+    {
+        if let Some(http) = &mut self.http {
+            respond(alloc, http, response, head);
+        }
+        self.net.begin();
+    }
+
+    /// The server connection was made by the choice of the rules. Out of memory nothing is said.
+    pub fn serve(&mut self) -> M<()>
+        ensures { OnOk result (self.new ≡ serving_host self.old) }
+    {
+        if let Some(http) = &mut self.http {
+            http.serves = Some(chosen(&self.net)?);
+        }
+        Ok(())
+    }
+
     /// The collect of a side, and what it holds.
     pub fn collected(&self, side: Side) -> &Collected
         ensures { result.now ≡ collected side self.now.net }
@@ -157,6 +181,22 @@ fn begin_http(http: &mut Option<Http>, net: &NetState)
         http.begin();
         http.detaches = http.detaches || net.wishes.detaches;
     }
+}
+
+// Of what was known before all that isn't of its message is left.
+fn respond(alloc: Global, http: &mut Http, response: Response, head: ResponseHead)
+    requires { head ≡ response.head }
+    ensures { http.new ≡ response_begun response http.old }
+{
+    http.body = response.body;
+    http.reader = start(response.body);
+    http.answered_by = Some(response);
+    http.response = Some(head);
+    http.whole = false;
+    http.collect = 0;
+    http.gathered = None;
+    http.payload = Text::empty(alloc);
+    http.detaches = false;
 }
 
 fn hold(collected: &mut Collected, bytes: &[u8]) -> M<()>

@@ -132,7 +132,8 @@ fn side_plan(side: Side, asks: Asks, from: &End, to: &End, later: Relay) -> Rela
 }
 
 impl Ends {
-    fn pass(&mut self, side: Side, n: usize) -> M<()>
+    /// The first `n` bytes of a side go to the other.
+    pub(crate) fn pass(&mut self, side: Side, n: usize) -> M<()>
         requires { passes_now side n self.old }
         ensures moved { OnOk result (self.new ≡ moved side n self.old) }
         ensures edges { self.new.edges ≡ self.old.edges }

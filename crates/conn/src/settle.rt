@@ -1,6 +1,6 @@
 // What a connection owes the outside where it can't go on.
 
-ghost use Rattle.std.specs.Prelude.{◌≡◌, ◌+◌, ◌≤◌, ◌++◌, length};
+ghost use Rattle.std.specs.Prelude.{◌≡◌, ◌+◌, ◌≤◌, ◌++◌};
 ghost use Rattle.conn.specs.Settling.{Settles, SettlesNotes, half_due, half_notes, noted_in, over_in};
 ghost use Rattle.conn.specs.Settling.{client_notes, close_notes, is_there, rest_notes};
 ghost use Rattle.conn.specs.Settling.{gave_up, is_spent, server_notes, settle_notes};

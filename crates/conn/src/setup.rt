@@ -1,7 +1,7 @@
 // What a connection runs on.
 
 ghost use Rattle.std.specs.Prelude.{◌≡◌, option_map};
-ghost use Rattle.conn.specs.Setups.{body_at, body_in, handler_of, handler_view, places_at};
+ghost use Rattle.conn.specs.Setups.{body_at, body_in, handler_of, places_at};
 ghost use Rattle.conn.specs.Setups.{places_in};
 ghost use Rattle.rule_loader.specs.Events.{event_place};
 

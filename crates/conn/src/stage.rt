@@ -4,12 +4,12 @@ ghost use Rattle.std.specs.Prelude.{◌≡◌};
 ghost use Rattle.conn.specs.Stages.{accepted_stage, after_stage, cause_for, connected_stage};
 ghost use Rattle.conn.specs.Stages.{connecting_stage, data_stage, dropped_in, ended_stage, failed};
 ghost use Rattle.conn.specs.Stages.{goes_on_stage, has_finished, in_event_of, is_asking};
-ghost use Rattle.conn.specs.Stages.{is_draining, is_relaying, next_by};
+ghost use Rattle.conn.specs.Stages.{is_draining, is_relaying, leaving_stage, next_by, unless_ended};
 
-use crate::ends::Link;
+use crate::ends::{Behind, Link};
 use crate::events::At;
 use crate::host::RuleHost;
-use crate::request::{behind_failed, behind_request};
+use crate::routing::{behind_failed, behind_request, behind_response};
 use core_events::{Cause, CutReason};
 use http_frames::BodyState;
 use irule_net::{Asks, Ending, Selected};
@@ -88,11 +88,28 @@ pub enum Stage {
     AtHead,
     /// The client is to be told to go on with its request.
     Continuing,
-    /// So many bytes more of a request's body are to be gathered, whose reader stands here.
+    /// So many bytes more of the body of a side's message are to be gathered, whose reader stands here.
     Gathering {
+        side: Side,
         wanted: usize,
         reader: BodyState,
     },
+    /// The server connection is to be used again, or not.
+    AtReuse,
+    /// It is to be given up.
+    GivingUp(Behind),
+    /// Its closing event has run.
+    Retiring(Behind),
+    /// The head of a side's message is to be sent on.
+    Heading(Side),
+    /// The units of its body are to be sent on, whose reader stands here; a chunk stands open or not.
+    Forwarding {
+        side: Side,
+        reader: BodyState,
+        standing: bool,
+    },
+    /// The server's next response is to be read.
+    AtResponse,
     /// What is left of the body of an answered request is to be dropped.
     Dropping(BodyState),
     /// The client's bytes that were released before there was a server are to go to it.
@@ -116,9 +133,27 @@ impl Stage {
     pub fn after(at: At, link: Link, host: &RuleHost) -> Stage
         ensures { result ≡ after_stage at link host.now }
     {
-        if at.is_closed() {
-            return Stage::Draining;
+        match at {
+            At::ServerClosed | At::Closed => Stage::Draining,
+            At::Leaving => Stage::left(link),
+            _ => Stage::open(at, link, host),
         }
+    }
+
+    // Its server connection is being given up: what rules wish there ends nothing.
+    fn left(link: Link) -> Stage
+        ensures { result ≡ leaving_stage link }
+    {
+        match link {
+            Link::Leaving(behind) => Stage::Retiring(behind),
+            _ => Stage::Choosing,
+        }
+    }
+
+    // Unless rules ended it.
+    fn open(at: At, link: Link, host: &RuleHost) -> Stage
+        ensures { result ≡ unless_ended host.now.net.wishes.ends (goes_on_stage at link host.now) }
+    {
         match host.net.wishes.ends {
             Some(ending) => Stage::ended(ending),
             None => Stage::going_on(at, link, host),
@@ -144,8 +179,10 @@ impl Stage {
             At::ClientData => Stage::behind_data(link.is_up(), net.wishes.released),
             At::Selected => Stage::connecting(&net.selected),
             At::Failed => behind_failed(&host.http, net.wishes.reselects),
-            At::Connected => Stage::behind_connected(net.loose.as_bytes()),
-            At::Request => behind_request(&host.http),
+            At::Connected => Stage::behind_connected(host.http.is_some(), net.loose.as_bytes()),
+            At::Request => behind_request(link, host),
+            At::Response => behind_response(&host.http),
+            At::Leaving => Stage::left(link),
             At::ServerData => Stage::Relaying(Side::Client),
             At::ServerClosed | At::Closed => Stage::Draining,
         }
@@ -181,10 +218,11 @@ impl Stage {
         }
     }
 
-    fn behind_connected(loose: &[u8]) -> Stage
-        ensures { result ≡ connected_stage loose.now }
+    fn behind_connected(http: bool, loose: &[u8]) -> Stage
+        ensures { result ≡ connected_stage http loose.now }
     {
         match loose {
+            _ if http => Stage::Heading(Side::Client),
             [] => Stage::Relaying(Side::Client),
             _ => Stage::Releasing,
         }

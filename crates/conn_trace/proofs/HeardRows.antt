@@ -53,6 +53,18 @@ cut_row : (cut_heard.connects ≡ server_heard.connects) × (cut_heard.choices �
     × (cut_heard.notes ≡ note.Pass 1 Server 2 ∷ note.Finish 1 (cause.Cut ClientReset) ∷ [])
 cut_row = (refl, refl, refl, refl, refl, refl)
 
+-- behind the finish another server is made: it is heard of none, and its reset and took-counts aren't those of the one before
+abbrev late_heard : Heard
+late_heard = comes (Connects true) cut_heard
+
+late_row : (late_heard.late ≡ true) × (late_heard.connects ≡ cut_heard.connects) × ((comes (Resets Server) late_heard).connects ≡ cut_heard.connects)
+    × ((comes (Takes Server 1) late_heard).connects ≡ cut_heard.connects) × ((comes (Connects false) cut_heard).late ≡ false)
+late_row = (refl, refl, refl, refl, refl)
+
+-- a reset before that is of the last one
+before_row : ((comes (Resets Server) cut_heard).connects ≡ None ∷ Some (record (came (codes "xy") false) { took = 2; reset = true }) ∷ []) × (server_heard.late ≡ false)
+before_row = (refl, refl)
+
 -- a finish for want of memory is told apart, and is no cut
 memory_row : ((hears 1 client_heard Runs (note.Finish 1 cause.Memory ∷ [])).failed ≡ true) × ((hears 1 client_heard Runs (note.Finish 1 cause.Memory ∷ [])).cut ≡ None)
 memory_row = (refl, refl)

@@ -24,7 +24,7 @@ use Rattle.conn_trace.specs.Heard.{SideHeard, Heard, side_taken, servers_taken, 
 use Rattle.conn_trace.specs.Heard.{hears_more, has_made, at_last, brought_nothing, brings_in}
 use Rattle.conn_trace.specs.Heard.{Brought, event_brings, marks, accepts, event_marks, brought}
 use Rattle.conn_trace.specs.Heard.{hear_brought, hear_tellings, hear_notes, hears_event, hears}
-use Rattle.conn_trace.specs.Heard.{as_stream, as_answer, start_of, further_of}
+use Rattle.conn_trace.specs.Heard.{as_stream, as_answer, start_of, further_of, event_late, late_after, late_by, unless_late}
 use Rattle.conn_trace.specs.HeardLaws.{cut_in, taken_by_items, TellsNothing, concerns}
 use Rattle.conn_trace.proofs.Furthering.{further_keeps, replies_keep}
 use Rattle.conn_trace.proofs.Telling.{run_tells}
@@ -66,6 +66,10 @@ at_last_marked f keeps (Some s ∷ more) = ap (λ t. Some t ∷ map as_answer (a
   by_made true = refl
   by_made false = keeps s
 
+marked_unless : (late : Bool) (f : SideHeard → SideHeard) → ((s : SideHeard) → as_stream (f s) ≡ as_stream s) → (hs : List (Option SideHeard)) → map as_answer (unless_late late f hs) ≡ map as_answer hs
+marked_unless true f keeps hs = refl
+marked_unless false f keeps hs = at_last_marked f keeps hs
+
 unmarked : (h : Heard) → Unmarked h h
 unmarked h = record { client = refl; connects = refl; replies = refl; choices = refl; cut = refl }
 
@@ -74,9 +78,9 @@ marks_nothing (Bytes side bytes) h = unmarked h
 marks_nothing (Ends side) h = unmarked h
 marks_nothing (Connects made) h = unmarked h
 marks_nothing (Resets Client) h = record { client = refl; connects = refl; replies = refl; choices = refl; cut = refl }
-marks_nothing (Resets Server) h = record { client = refl; connects = at_last_marked _ (λ s. refl) h.connects; replies = refl; choices = refl; cut = refl }
+marks_nothing (Resets Server) h = record { client = refl; connects = marked_unless h.late _ (λ s. refl) h.connects; replies = refl; choices = refl; cut = refl }
 marks_nothing (Takes Client n) h = record { client = refl; connects = refl; replies = refl; choices = refl; cut = refl }
-marks_nothing (Takes Server n) h = record { client = refl; connects = at_last_marked _ (λ s. refl) h.connects; replies = refl; choices = refl; cut = refl }
+marks_nothing (Takes Server n) h = record { client = refl; connects = marked_unless h.late _ (λ s. refl) h.connects; replies = refl; choices = refl; cut = refl }
 
 accepts_nothing : (virtual : List ℕ) (from : Addr) (h : Heard) → Unmarked h (accepts virtual from h)
 accepts_nothing virtual from h = record { client = refl; connects = refl; replies = refl; choices = refl; cut = refl }
@@ -243,6 +247,14 @@ other_brings c Turns is = (refl, λ h. refl)
 other_brings c Runs is = (refl, λ h. refl)
 other_brings c (Marks pool member up) is = (refl, λ h. refl)
 
+other_late : (c : ℕ) (v : EventKind) (b : Bool) → concerns c v ≡ false → event_late c v b ≡ b
+other_late c (Comes d input) b is = ap (λ x. if x then late_by input b else b) is
+other_late c (Accepts d virtual from) b is = refl
+other_late c (Ticks m) b is = refl
+other_late c Turns b is = refl
+other_late c Runs b is = refl
+other_late c (Marks pool member up) b is = refl
+
 other_edges : (c : ℕ) (v : EventKind) (e : Edges) → concerns c v ≡ false → event_edges c v e ≡ e
 other_edges c (Comes d input) e is = ap (λ b. if b then edges_met input e else e) is
 other_edges c (Accepts d virtual from) e is = ap (λ b. if b then accepted_edges else e) is
@@ -256,8 +268,13 @@ others_not_heard c h v group other none =
     let quiet = other_brings c v other in
     let heard : hears_event c h v group ≡ h =
     ap (hear_brought (brought c h v group)) (quiet.1 h) ∙ (ap (λ b. hear_brought b h) (by_finish (h.finished || finish_told (notes_about c group))) ∙ brings_none h) in
-    ap (λ (k : Heard). record k { edges = edges_after c v group h.edges }) (ap (hear_notes c group) heard ∙ (ap (λ o. record (hear_tellings (map tells o) h) { notes = h.notes ++ o }) none ∙ tells_none h))
+    ap (λ (k : Heard). record k { late = late_after c h v group; edges = edges_after c v group h.edges }) (ap (hear_notes c group) heard ∙ (ap (λ o. record (hear_tellings (map tells o) h) { notes = h.notes ++ o }) none ∙ tells_none h))
+    ∙ ap (λ b. record h { late = b; edges = edges_after c v group h.edges }) (same_late (h.finished || finish_told (notes_about c group)))
     ∙ ap (λ e. record h { edges = e }) (ap (λ o. edges_noted o (event_edges c v h.edges)) none ∙ other_edges c v h.edges other) where
+      same_late : (b : Bool) → (if b then event_late c v h.late else h.late) ≡ h.late
+      same_late true = other_late c v h.late other
+      same_late false = refl
+
       by_finish : (b : Bool) → (if b then brought_nothing else event_brings c v) ≡ brought_nothing
       by_finish true = refl
       by_finish false = (other_brings c v other).0

@@ -227,6 +227,9 @@ module _ (groups : Groups) (event : EventName) (s : NetState) (words : List (Lis
   ends_quiet : (ending : Ending) → Quiet s (Gives [] (ends ending s) [])
   ends_quiet ending = record { client = refl; server = refl; loose = refl; sends = λ to. refl }
 
+  detaches_quiet : Quiet s (Gives [] (record s { wishes = record s.wishes { detaches = true } }) [])
+  detaches_quiet = record { client = refl; server = refl; loose = refl; sends = λ to. refl }
+
   reselects_quiet : (target : Target) → Quiet s (reselects target s)
   reselects_quiet target = either_quiet s (nat_lt s.reselects reselect_limit) _ _ (record { client = refl; server = refl; loose = refl; sends = λ to. refl }) (faults_quiet s _)
 
@@ -390,6 +393,7 @@ module _ (groups : Groups) (event : EventName) (s : NetState) (words : List (Lis
   command_leaves command.Pool there = silent (fitting P _ (allowed command.Pool) _ _ _ _ pool_quiet bad)
   command_leaves command.Node there = silent (fitting P _ (allowed command.Node) _ _ _ _ node_quiet bad)
   command_leaves command.LbReselect there = silent (reselect_quiet words)
+  command_leaves command.LbDetach there = silent (fitting P _ (allowed command.LbDetach) _ _ _ _ (does detaches_quiet) bad)
   command_leaves command.Reject there = silent (fitting P _ (allowed command.Reject) _ _ _ _ (does (ends_quiet Rejects)) bad)
   command_leaves command.Drop there = silent (fitting P _ (allowed command.Drop) _ _ _ _ (does (ends_quiet Rejects)) bad)
   command_leaves command.TcpClose there = silent (fitting P _ (allowed command.TcpClose) _ _ _ _ (does (ends_quiet Closes)) bad)

@@ -83,10 +83,11 @@ command_rows :
     × (commands no_groups closing_host (codes "class" ∷ codes "exists" ∷ codes "g" ∷ []) ≡ Gives (codes "0") closing_host [])
     × (commands no_groups closing_host (codes "TCP::respond" ∷ codes "a" ∷ []) ≡ Faults (not_here (codes "TCP::respond")) closing_host [])
     × (commands no_groups accepted (codes "TCP::collect" ∷ codes "1" ∷ []) ≡ Gives [] collecting [])
-    × (commands no_groups accepted (codes "LB::detach" ∷ []) ≡ Faults (no_command (codes "LB::detach")) accepted [])
+    × (commands no_groups accepted (codes "LB::detach" ∷ []) ≡ Faults (not_here (codes "LB::detach")) accepted [])
+    × (commands no_groups accepted (codes "after" ∷ codes "5" ∷ []) ≡ Faults (no_command (codes "after")) accepted [])
     × (commands no_groups accepted [] ≡ Faults (no_command []) accepted [])
 unfolding commands digits
-command_rows = (refl, refl, refl, refl, refl, refl, refl, refl, refl)
+command_rows = (refl, refl, refl, refl, refl, refl, refl, refl, refl, refl)
 
 -- a body of an event runs, where the host's state is so
 abbrev answers : EventName → List Handler

@@ -36,13 +36,14 @@ pub record Accepted : Type 0 where
   pub from : Addr
 
 -- What was heard of a connection: its accept; its client; the answers to its connects, the oldest
--- first, each with what was heard of that connection; by its notes the replies, the choices, the
--- cut, whether it has finished, and whether for want of memory; the notes, the oldest first; and
--- where its ends stand.
+-- first, each with what was heard of that connection; whether its last server connection was made
+-- behind the finish, of which nothing is heard; by its notes the replies, the choices, the cut, whether it
+-- has finished, and whether for want of memory; the notes, the oldest first; and where its ends stand.
 pub record Heard : Type 0 where
   pub accepted : Option Accepted
   pub client : SideHeard
   pub connects : List (Option SideHeard)
+  pub late : Bool
   pub replies : List Reply
   pub choices : List Choice
   pub cut : Option Cut
@@ -59,6 +60,7 @@ nothing_heard = record {
   accepted = None;
   client = fresh_side;
   connects = [];
+  late = false;
   replies = [];
   choices = [];
   cut = None;
@@ -104,6 +106,12 @@ at_last f [] = []
 at_last f (None ∷ more) = None ∷ at_last f more
 at_last f (Some s ∷ more) = Some (if has_made more then s else f s) ∷ at_last f more
 
+-- unless the last one was made behind the finish
+abbrev pub unless_late :
+    Bool → (SideHeard → SideHeard) → List (Option SideHeard) → List (Option SideHeard)
+unless_late true f connects = connects
+unless_late false f connects = at_last f connects
+
 abbrev pub answer : Bool → Option SideHeard
 answer true = Some fresh_side
 answer false = None
@@ -140,7 +148,7 @@ takes n s = record s { took = s.took + n }
 
 abbrev at_side : Side → (SideHeard → SideHeard) → Heard → Heard
 at_side Client f h = record h { client = f h.client }
-at_side Server f h = record h { connects = at_last f h.connects }
+at_side Server f h = record h { connects = unless_late h.late f h.connects }
 
 -- what an input changes beside
 abbrev pub marks : Input → Heard → Heard
@@ -162,6 +170,19 @@ abbrev pub brought : ℕ → Heard → EventKind → List Note → Brought
 brought c h v group =
     if h.finished || finish_told (notes_about c group) then brought_nothing
     else event_brings c v
+
+-- whether a server connection was made behind the finish
+abbrev pub late_by : Input → Bool → Bool
+late_by (Connects made) late = made
+late_by other late = late
+
+abbrev pub event_late : ℕ → EventKind → Bool → Bool
+event_late c (Comes d input) late = if nat_eq d c then late_by input late else late
+event_late c other late = late
+
+abbrev pub late_after : ℕ → Heard → EventKind → List Note → Bool
+late_after c h v group =
+    if h.finished || finish_told (notes_about c group) then event_late c v h.late else h.late
 
 abbrev pub hear_brought : Brought → Heard → Heard
 hear_brought b h = record h {
@@ -206,6 +227,7 @@ edges_after c v group e = edges_noted (own c group) (event_edges c v e)
 -- what connection c hears of an event and its group of notes
 abbrev pub hears : ℕ → Heard → EventKind → List Note → Heard
 hears c h v group = record (hear_notes c group (hears_event c h v group)) {
+  late = late_after c h v group;
   edges = edges_after c v group h.edges;
 }
 

@@ -10,7 +10,7 @@ use Rattle.event_order.specs.declared.command.HostCommand.{HostCommand}
 use Rattle.event_order.specs.declared.command.HostCommand.TheVariants.{Log, Class, TcpRespond}
 use Rattle.event_order.specs.declared.command.HostCommand.TheVariants.{IpClientAddr, IpServerAddr}
 use Rattle.event_order.specs.declared.command.HostCommand.TheVariants.{ActiveMembers, Pool, Node}
-use Rattle.event_order.specs.declared.command.HostCommand.TheVariants.{LbReselect, Reject, Drop}
+use Rattle.event_order.specs.declared.command.HostCommand.TheVariants.{LbDetach, LbReselect, Reject, Drop}
 use Rattle.event_order.specs.declared.command.HostCommand.TheVariants.{TcpClose, TcpCollect}
 use Rattle.event_order.specs.declared.command.HostCommand.TheVariants.{TcpRelease, TcpPayload}
 use Rattle.event_order.specs.declared.command.HostCommand.TheVariants.{TcpClientPort, LbServer, Table, Clock}
@@ -80,6 +80,7 @@ is_there Clock = true
 is_there Pool = true
 is_there Node = true
 is_there LbReselect = true
+is_there LbDetach = true
 is_there Reject = true
 is_there Drop = true
 is_there TcpClose = true

@@ -1,6 +1,6 @@
 -- What a connection knows of the messages of one request, as they begin and as their bodies are gathered.
 use Rattle.std.specs.Prelude.{ℕ, ◌+◌, ◌-◌, List, [], ◌++◌, length, min}
-use Rattle.std.specs.Prelude.{Bool, true, false, not, Option, Some, None, Result, Err}
+use Rattle.std.specs.Prelude.{Bool, true, false, not, ◌&&◌, Option, Some, None, Result, Err}
 use Rattle.std.specs.Prelude.{if◌then◌else◌}
 use Rattle.px_bytes.specs.declared.addr.Side.{Side}
 use Rattle.px_bytes.specs.declared.fault.HttpFault.{HttpFault}
@@ -11,7 +11,7 @@ use Rattle.http_frames.specs.declared.state.BodyState.TheVariants as state
 use Rattle.irule_http.specs.Payload.{payload_limit}
 use Rattle.http_answers.specs.Refusals.{refusal}
 use Rattle.http_messages.specs.Messages.{request_of, response_of}
-use Rattle.irule_http.specs.Sent.{client_closes, interim_head, sent_head}
+use Rattle.irule_http.specs.Sent.{client_closes, interim_head, is_to_end, sent_head}
 use Rattle.irule_http.specs.State.{no_http}
 use Rattle.irule_http.specs.declared.state.Http.{Http}
 use Rattle.irule_http.specs.declared.state.Request.{Request}
@@ -76,10 +76,10 @@ response_begun r h = record h {
   detaches = false;
 }
 
--- the server's connection persists by its response
+-- the server's connection persists by its response, unless that lasts to the end of its stream (RFC 9112, 6.3 and 9.3)
 abbrev pub server_persisting : Option Response → Bool
 server_persisting None = true
-server_persisting (Some r) = r.persists
+server_persisting (Some r) = r.persists && not (is_to_end r.body)
 
 -- the client connection goes on behind its message, or behind a rule's answer
 abbrev pub client_goes_on : Http → Bool

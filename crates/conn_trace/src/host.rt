@@ -39,6 +39,7 @@ fn is_command_there(command: HostCommand) -> bool
         | HostCommand::Pool
         | HostCommand::Node
         | HostCommand::LbReselect
+        | HostCommand::LbDetach
         | HostCommand::Reject
         | HostCommand::Drop
         | HostCommand::TcpClose

@@ -1,6 +1,7 @@
--- The server connections of a connection: how many were made, and what the first of them took.
-use Rattle.std.proofs.Common.{◌≡◌, ◌⊎◌, inl, inr, refl, sym, ap, subst, ◌∙◌, ℕ, zero, suc, ◌≤◌, List, [], ◌∷◌, take, map, Bool, true, false, Option, Some, None, nat_eq, arith, if◌then◌else◌}
+-- The server connections of a connection: how many were made, and what each of them took.
+use Rattle.std.proofs.Common.{◌≡◌, ◌⊎◌, inl, inr, refl, sym, ap, subst, ◌∙◌, ℕ, zero, suc, ◌≤◌, List, [], ◌∷◌, ◌++◌, take, map, Bool, true, false, Option, Some, None, nat_eq, arith, if◌then◌else◌}
 use Rattle.std.specs.Prelude.{is_some}
+use Rattle.std.proofs.lemmas.List.{map-append}
 use Rattle.px_bytes.specs.declared.addr.Side.TheVariants.{Client, Server}
 use Rattle.core_events.specs.declared.note.Note.{Note}
 use Rattle.core_events.specs.declared.event_kind.EventKind.{EventKind}
@@ -8,54 +9,54 @@ use Rattle.core_events.specs.declared.event_kind.EventKind.TheVariants.{Accepts,
 use Rattle.core_events.specs.declared.event_kind.EventKind.TheVariants.{Turns, Runs, Marks}
 use Rattle.core_events.specs.declared.input.Input.{Input}
 use Rattle.core_events.specs.declared.input.Input.TheVariants.{Bytes, Ends, Resets, Connects, Takes}
-use Rattle.conn_trace.specs.Heard.{SideHeard, Heard, has_made, marks, hears}
-use Rattle.conn_trace.specs.Item.{server_output}
+use Rattle.conn_trace.specs.Heard.{SideHeard, Heard, marks, hears}
+use Rattle.conn_trace.specs.Item.{Item, server_output}
 use Rattle.proxy_core.specs.Moves.{Leads}
 use Rattle.proxy_core.specs.Others.{about}
 use Rattle.core_events.specs.Kinds.{kind_of}
 use Rattle.record_model.specs.Past.{Past, heard}
 use Rattle.proxy_core.specs.Refusal.{refused}
-use Rattle.proxy_core.specs.Scheduler.{State, Seen, last_took, seen}
-use Rattle.proxy_core.specs.Servers.{made, makes, servers_made, took_of}
+use Rattle.proxy_core.specs.Scheduler.{State}
+use Rattle.proxy_core.specs.Servers.{made, makes, servers_made, took_behind, took_of}
 use Rattle.run_config.specs.declared.config.Config.{Config}
-use Rattle.proxy_core.proofs.HeardServers.{heard_servers}
 use Rattle.proxy_core.proofs.Members.{eq_same}
+use Rattle.proxy_core.proofs.ServerCounts.{TookBy, come_took, more_of as took_counted}
 use Rattle.proxy_core.proofs.SoundPast.{leads_sound, may_come_at}
-use Rattle.proxy.specs.Replay.{server_bytes, numbers_to, servers_bytes}
+use Rattle.proxy.specs.Replay.{numbers_to}
 
--- ---- the first of them, where no more are made
+-- ---- what each took
 
-none_has : (cs : List (Option SideHeard)) → made cs ≤ 0 → has_made cs ≡ false
-none_has [] few = refl
-none_has (None ∷ more) few = none_has more few
-none_has (Some s ∷ more) few = absurd (omega (arith, few))
+-- of the first n, by what was heard of them and what was sent to them
+abbrev pub servers_of : List (Option SideHeard) → List Item → ℕ → List (List ℕ)
+servers_of connects place n = map (λ k. take (took_of connects k) (server_output k place)) (numbers_to n)
 
-pub unmade : (c : ℕ) (past : Past) → servers_made c past ≡ 0 → has_made (heard c past).connects ≡ false
-unmade c past e = let f = (heard_servers c past).few in none_has (heard c past).connects (omega (arith, e, f))
+-- those of one more
+pub one_more : (cs : List (Option SideHeard)) (place : List Item) (n : ℕ) → servers_of cs place (suc n) ≡ servers_of cs place n ++ take (took_of cs (suc n)) (server_output (suc n) place) ∷ []
+one_more cs place n = map-append (λ k. take (took_of cs k) (server_output k place)) (numbers_to n) (suc n ∷ [])
 
-first_took : (cs : List (Option SideHeard)) → made cs ≤ 1 → took_of cs 1 ≡ last_took cs
-first_took [] few = refl
-first_took (None ∷ more) few = first_took more few
-first_took (Some s ∷ more) few = ap (λ b. if b then last_took more else s.took) (sym (none_has more (omega (arith, few))))
+pub same_servers : (cs cs' : List (Option SideHeard)) (place place' : List Item) (n : ℕ) → ((k : ℕ) → k ≤ n → take (took_of cs' k) (server_output k place') ≡ take (took_of cs k) (server_output k place)) → servers_of cs' place' n ≡ servers_of cs place n
+same_servers cs cs' place place' zero same = refl
+same_servers cs cs' place place' (suc n) same =
+    one_more cs' place' n
+    ∙ ap (λ l. l ++ take (took_of cs' (suc n)) (server_output (suc n) place') ∷ []) (same_servers cs cs' place place' n (λ k le. same k (omega (arith, le))))
+    ∙ ap (λ x. servers_of cs place n ++ x ∷ []) (same (suc n) (omega arith))
+    ∙ sym (one_more cs place n)
 
--- the bytes that it took, by what is seen of the connection
-abbrev pub server_seen : Seen → List ℕ
-server_seen z = take (last_took z.heard.connects) (server_output 1 z.place)
+-- one that wasn't heard of took nothing
+pub none_beyond : (k : ℕ) (cs : List (Option SideHeard)) → made cs ≤ k → took_behind k cs ≡ 0
+none_beyond k [] le = refl
+none_beyond k (None ∷ more) le = none_beyond k more le
+none_beyond zero (Some s ∷ more) le = absurd (omega (arith, le))
+none_beyond (suc k) (Some s ∷ more) le = none_beyond k more (omega (arith, le))
 
--- those of each server connection, where at most one is made
-abbrev pub servers_seen : ℕ → List ℕ → List (List ℕ)
-servers_seen zero bytes = []
-servers_seen (suc n) bytes = bytes ∷ []
-
-pub servers_are : (past : Past) (s : State) (c : ℕ) → servers_made c past ≤ 1 → servers_bytes past s c ≡ servers_seen (servers_made c past) (server_seen (seen past s c))
-servers_are past s c few = by_number (servers_made c past) refl
+-- where nothing is taken of a server each took what it took before
+pub took_still : (c : ℕ) (h : Heard) (i : Input) (group : List Note) → took_counted i ≡ 0 → (k : ℕ) → took_of (hears c h (Comes c i) group).connects k ≡ took_of h.connects k
+took_still c h i group none zero = refl
+took_still c h i group none (suc k) = by (come_took c h i group k)
   where
-    by_number : (n : ℕ) → servers_made c past ≡ n → map (server_bytes past s c) (numbers_to n) ≡ servers_seen n (server_seen (seen past s c))
-    by_number zero e = refl
-    by_number (suc zero) e =
-        let f = (heard_servers c past).few in
-        ap (λ t. take t (server_output 1 (s.places c)) ∷ []) (first_took (heard c past).connects (omega (arith, few, f)))
-    by_number (suc (suc n)) e = absurd (omega (arith, few, e))
+    by : TookBy (took_counted i) k h.connects (hears c h (Comes c i) group).connects → took_behind k (hears c h (Comes c i) group).connects ≡ took_behind k h.connects
+    by (inl e) = e
+    by (inr (e, f)) = omega (arith, f, none)
 
 -- ---- one that isn't accepted has none
 

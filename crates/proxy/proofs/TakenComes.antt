@@ -13,45 +13,29 @@ use Rattle.core_events.specs.declared.event_kind.EventKind.TheVariants.{Comes}
 use Rattle.core_events.specs.declared.input.Input.{Input}
 use Rattle.core_events.specs.declared.input.Input.TheVariants.{Bytes, Ends, Resets, Connects, Takes}
 use Rattle.conn_trace.specs.Heard.{Heard, edges_met, hears}
-use Rattle.conn_trace.specs.Item.{client_output, server_output}
-use Rattle.conn_trace.specs.Tellings.{finish_told, notes_about}
-use Rattle.conn.specs.Holds.{Around}
-use Rattle.proxy_core.specs.Live.{met_by}
+use Rattle.conn_trace.specs.Item.{Item, client_output, server_output}
 use Rattle.proxy_core.specs.Moves.{Moves, MovesBy, MovesFailed, MovesLacks, MovesOn}
 use Rattle.core_events.specs.Kinds.{kind_of}
 use Rattle.record_model.specs.Past.{Happened, Past, heard}
 use Rattle.proxy_core.specs.Ready.{is_in}
-use Rattle.proxy_core.specs.Represents.{around}
-use Rattle.proxy_core.specs.Scheduler.{State, last_took, seen}
+use Rattle.proxy_core.specs.Scheduler.{State}
 use Rattle.run_config.specs.declared.config.Config.{Config}
 use Rattle.core_events.specs.declared.event.Event.{Event}
 use Rattle.core_events.specs.declared.event.Event.TheVariants.{Connected}
 use Rattle.proxy_core.specs.Others.{about}
-use Rattle.proxy_core.proofs.Meeting.{TakesThere, around_met, around_last, none_took}
+use Rattle.proxy_core.proofs.HeardServers.{heard_servers}
 use Rattle.proxy_core.proofs.Members.{eq_self, eq_same, eq_turned}
 use Rattle.proxy_core.proofs.ReadyRing.{absent_all}
+use Rattle.proxy_core.proofs.ServerCounts.{more_of as took_counted}
+use Rattle.served_core.proofs.Growing.{heard_took, took_in}
 use Rattle.proxy.specs.declared.taken.Taken.{Taken}
-use Rattle.proxy_core.specs.OneServer.{OneServer}
-use Rattle.proxy_core.specs.Servers.{makes, servers_made}
+use Rattle.proxy_core.specs.Servers.{makes, servers_made, took_of}
 use Rattle.proxy.specs.Replay.{accepted, taken_by, taken_of}
 use Rattle.proxy.specs.Taken.{begins_server, changed}
-use Rattle.proxy.proofs.MadeServers.{unmade}
-use Rattle.proxy.proofs.TakenRows.{Rising, entry, entry_seen, entry_is, other_stays, same_each}
+use Rattle.proxy.proofs.MadeServers.{none_beyond, one_more, same_servers, servers_of, took_still}
+use Rattle.proxy.proofs.TakenRows.{Rising, other_stays, row, same_each}
 
 -- ---- lists with one entry changed
-
-pub drop_nothing : (n : ℕ) → drop {A = ℕ} n [] ≡ []
-drop_nothing zero = refl
-drop_nothing (suc n) = refl
-
-take_nothing : (n : ℕ) → take {A = ℕ} n [] ≡ []
-take_nothing zero = refl
-take_nothing (suc n) = refl
-
-pub more_taken : (t n : ℕ) (out : List ℕ) → take t out ++ take n (drop t out) ≡ take (t + n) out
-more_taken zero n out = ap (λ m. take m out) (let e : n ≡ 0 + n = omega arith in e)
-more_taken (suc t) n [] = take_nothing n ∙ sym (take_nothing (suc t + n))
-more_taken (suc t) n (b ∷ out) = let e : suc t + n ≡ suc (t + n) = omega arith in rw e (ap (λ l. b ∷ l) (more_taken t n out))
 
 or_parts : (a b : Bool) → (a || b) ≡ false → (a ≡ false) × (b ≡ false)
 or_parts false b h = (refl, h)
@@ -93,33 +77,13 @@ came_places C past s next c input group m q = by_failed (heard c past).failed m
     by_failed false (inl k) = ap (λ y. y.places q) k.state
     by_failed false (inr k) = ap (λ y. y.places q) k.state
 
--- what it tells of the counts, by whether the connection finishes with it
-pub record Counted (c : ℕ) (h : Heard) (i : Input) (group : List Note) : Type 0 where
-  pub finished : Bool
-  pub around : around (hears c h (Comes c i) group) ≡ met_by i finished (around h)
-
-pub counted : (c : ℕ) (h : Heard) (i : Input) (group : List Note) → TakesThere i h → Counted c h i group
-counted c h i group there = by_finish (finish_told (notes_about c group)) refl
-  where
-    by_finish : (b : Bool) → finish_told (notes_about c group) ≡ b → Counted c h i group
-    by_finish true e = record { finished = true; around = around_last c h i group e there }
-    by_finish false e = record { finished = h.finished; around = around_met c h i group e there }
-
--- the entry behind it, by the counts before and the numbers that it adds
-pub came_entry : (C : Config) (past : Past) (s next : State) (c : ℕ) (i : Input) (e : Event) (group : List Note) (t u : ℕ) → kind_of e ≡ Comes c i → OneServer (record { event = e; group = group } ∷ past) next c → Moves C past (record { event = e; group = group }) s next
-    → (hears c (heard c past) (Comes c i) group).client.took ≡ t → last_took (hears c (heard c past) (Comes c i) group).connects ≡ u
-    → taken_by (record { event = e; group = group } ∷ past) next c ≡ entry c (servers_made c past + makes c (Comes c i)) t u (client_output (s.places c)) (server_output 1 (s.places c))
-came_entry C past s next c i e group t u is one m ct su =
-    let x : Happened = record { event = e; group = group } in
+-- the row behind it
+pub came_row : (C : Config) (past : Past) (s next : State) (c : ℕ) (i : Input) (e : Event) (group : List Note) → kind_of e ≡ Comes c i → Moves C past (record { event = e; group = group }) s next
+    → taken_by (record { event = e; group = group } ∷ past) next c ≡ row c (servers_made c past + makes c (Comes c i)) (hears c (heard c past) (Comes c i) group) (s.places c)
+came_row C past s next c i e group is m =
     let K : EventKind → Type 0 = λ k. MovesBy C past k group s next in
-    let places : next.places c ≡ s.places c = came_places C past s next c i group (subst K is m) c in
-    let h' = heard c (x ∷ past) in
-    entry_is (x ∷ past) next c one.once
-    ∙ ap (λ k. entry c (servers_made c past + makes c k) h'.client.took (last_took h'.connects) (client_output (next.places c)) (server_output 1 (next.places c))) is
-    ∙ ap (λ k. entry c (servers_made c past + makes c (Comes c i)) (hears c (heard c past) k group).client.took (last_took (hears c (heard c past) k group).connects) (client_output (next.places c)) (server_output 1 (next.places c))) is
-    ∙ ap (λ p. entry c (servers_made c past + makes c (Comes c i)) (hears c (heard c past) (Comes c i) group).client.took (last_took (hears c (heard c past) (Comes c i) group).connects) (client_output p) (server_output 1 p)) places
-    ∙ ap (λ n. entry c (servers_made c past + makes c (Comes c i)) n (last_took (hears c (heard c past) (Comes c i) group).connects) (client_output (s.places c)) (server_output 1 (s.places c))) ct
-    ∙ ap (λ n. entry c (servers_made c past + makes c (Comes c i)) t n (client_output (s.places c)) (server_output 1 (s.places c))) su
+    ap (λ k. row c (servers_made c past + makes c k) (hears c (heard c past) k group) (next.places c)) is
+    ∙ ap (row c (servers_made c past + makes c (Comes c i)) (hears c (heard c past) (Comes c i) group)) (came_places C past s next c i group (subst K is m) c)
 
 -- those of all others stay with it
 pub came_others : (C : Config) (past : Past) (s next : State) (c : ℕ) (i : Input) (e : Event) (group : List Note) → kind_of e ≡ Comes c i → Moves C past (record { event = e; group = group }) s next
@@ -132,13 +96,6 @@ TakesNone (Takes side n) = ⊥
 TakesNone (Connects true) = ⊥
 TakesNone other = Unit {0}
 
-none_there : (i : Input) (h : Heard) → TakesNone i → TakesThere i h
-none_there (Bytes side bytes) h k = tt
-none_there (Ends side) h k = tt
-none_there (Resets side) h k = tt
-none_there (Connects made) h k = tt
-none_there (Takes side n) h k = absurd k
-
 none_makes : (i : Input) (c : ℕ) → TakesNone i → makes c (Comes c i) ≡ 0
 none_makes (Bytes side bytes) c k = refl
 none_makes (Ends side) c k = refl
@@ -147,28 +104,45 @@ none_makes (Connects true) c k = absurd k
 none_makes (Connects false) c k = refl
 none_makes (Takes side n) c k = absurd k
 
-none_counted : (i : Input) (b : Bool) (a : Around) → TakesNone i → ((met_by i b a).counted ≡ a.counted) × ((met_by i b a).counted_server ≡ a.counted_server)
-none_counted (Bytes side bytes) b a k = (refl, refl)
-none_counted (Ends side) b a k = (refl, refl)
-none_counted (Resets Client) b a k = (refl, refl)
-none_counted (Resets Server) b a k = (refl, refl)
-none_counted (Connects true) b a k = absurd k
-none_counted (Connects false) true a k = (refl, refl)
-none_counted (Connects false) false a k = (refl, refl)
-none_counted (Takes side n) b a k = absurd k
+none_counted : (i : Input) → TakesNone i → took_counted i ≡ 0
+none_counted (Bytes side bytes) k = refl
+none_counted (Ends side) k = refl
+none_counted (Resets side) k = refl
+none_counted (Connects made) k = refl
+none_counted (Takes side n) k = absurd k
+
+none_client : (i : Input) (c : ℕ) → TakesNone i → took_in c (Comes c i) ≡ 0
+none_client (Bytes side bytes) c k = refl
+none_client (Ends side) c k = refl
+none_client (Resets side) c k = refl
+none_client (Connects made) c k = refl
+none_client (Takes side n) c k = absurd k
+
+-- what its client took, where it takes nothing
+pub same_client : (c : ℕ) (h : Heard) (i : Input) (group : List Note) → took_in c (Comes c i) ≡ 0 → (hears c h (Comes c i) group).client.took ≡ h.client.took
+same_client c h i group none = let k = heard_took c h (Comes c i) group in omega (arith, k, none)
+
+-- and each of its servers
+pub each_still : (c : ℕ) (h : Heard) (i : Input) (group : List Note) (place : List Item) (n : ℕ) → took_counted i ≡ 0 → servers_of (hears c h (Comes c i) group).connects place n ≡ servers_of h.connects place n
+each_still c h i group place n none =
+    same_servers h.connects (hears c h (Comes c i) group).connects place place n (λ k le. ap (λ t. take t (server_output k place)) (took_still c h i group none k))
 
 -- then each took what it took before
-pub came_kept : (C : Config) (past : Past) (s next : State) (c : ℕ) (i : Input) (e : Event) (group : List Note) → kind_of e ≡ Comes c i → TakesNone i → OneServer past s c → OneServer (record { event = e; group = group } ∷ past) next c
+pub came_kept : (C : Config) (past : Past) (s next : State) (c : ℕ) (i : Input) (e : Event) (group : List Note) → kind_of e ≡ Comes c i → TakesNone i
     → Moves C past (record { event = e; group = group }) s next → taken_of past s (accepted past) ≡ taken_of (record { event = e; group = group } ∷ past) next (accepted past)
-came_kept C past s next c i e group is none one one' m =
+came_kept C past s next c i e group is none m =
     let x : Happened = record { event = e; group = group } in
     let h = heard c past in
-    let k = counted c h i group (none_there i h none) in
-    let a = none_counted i k.finished (around h) none in
-    let more : servers_made c past + makes c (Comes c i) ≡ servers_made c past = let z = none_makes i c none in omega (arith, z) in
+    let h' = hears c h (Comes c i) group in
+    let place = s.places c in
+    let total = servers_made c past in
+    let more : total + makes c (Comes c i) ≡ total = let z = none_makes i c none in omega (arith, z) in
+    let put : ℕ → List (List ℕ) → Taken = λ t l. record { conn = c; client = take t (client_output place); servers = l } in
     let own : taken_by (x ∷ past) next c ≡ taken_by past s c =
-    came_entry C past s next c i e group h.client.took (last_took h.connects) is one' m (ap (λ y. y.counted) k.around ∙ a.0) (ap (λ y. y.counted_server) k.around ∙ a.1)
-    ∙ ap (λ n. entry_seen c n (seen past s c)) more ∙ sym (entry_is past s c one.once) in
+    came_row C past s next c i e group is m
+    ∙ ap (λ n. row c n h' place) more
+    ∙ ap (λ t. put t (servers_of h'.connects place total)) (same_client c h i group (none_client i c none))
+    ∙ ap (put h.client.took) (each_still c h i group place total (none_counted i none)) in
     sym (same_each past (x ∷ past) s next (accepted past) (λ q. by_number q (nat_eq q c) refl own))
   where
     by_number : (q : ℕ) (b : Bool) → nat_eq q c ≡ b → taken_by (record { event = e; group = group } ∷ past) next c ≡ taken_by past s c → taken_by (record { event = e; group = group } ∷ past) next q ≡ taken_by past s q
@@ -177,25 +151,20 @@ came_kept C past s next c i e group is none one one' m =
 
 -- ---- a server connection is made
 
-connected_counted : (b : Bool) (a : Around) → ((met_by (Connects true) b a).counted ≡ a.counted) × ((met_by (Connects true) b a).counted_server ≤ a.counted_server)
-connected_counted true a = (refl, omega arith)
-connected_counted false a = (refl, omega arith)
-
-pub connects_kept : (C : Config) (past : Past) (s next : State) (c : ℕ) (group : List Note) → Rising past → OneServer past s c → OneServer (record { event = Connected c; group = group } ∷ past) next c
-    → Moves C past (record { event = Connected c; group = group }) s next
+pub connects_kept : (C : Config) (past : Past) (s next : State) (c : ℕ) (group : List Note) → Rising past → Moves C past (record { event = Connected c; group = group }) s next
     → changed c begins_server (taken_of past s (accepted past)) ≡ taken_of (record { event = Connected c; group = group } ∷ past) next (accepted past)
-connects_kept C past s next c group rises one one' m =
+connects_kept C past s next c group rises m =
     let x : Happened = record { event = Connected c; group = group } in
     let h = heard c past in
-    let k = counted c h (Connects true) group tt in
-    let a = connected_counted k.finished (around h) in
-    let new : makes c (Comes c (Connects true)) ≡ 1 = ap (λ b. if b then 1 else 0) (eq_self c) in
-    let once = one'.once in
-    let none : servers_made c past ≡ 0 = omega (arith, once, new) in
-    let took : last_took h.connects ≡ 0 = none_took h.connects (unmade c past none) in
-    let nothing : (met_by (Connects true) k.finished (around h)).counted_server ≡ 0 = let le = a.1 in omega (arith, le, took) in
+    let h' = hears c h (Comes c (Connects true)) group in
+    let place = s.places c in
+    let total = servers_made c past in
+    let new : total + makes c (Comes c (Connects true)) ≡ suc total = let n = ap {B = ℕ} (λ b. if b then 1 else 0) (eq_self c) in omega (arith, n) in
+    let put : ℕ → List (List ℕ) → Taken = λ t l. record { conn = c; client = take t (client_output place); servers = l } in
+    let fresh : took_of h'.connects (suc total) ≡ 0 = took_still c h (Connects true) group refl (suc total) ∙ none_beyond total h.connects (heard_servers c past).few in
     let own : taken_by (x ∷ past) next c ≡ begins_server (taken_by past s c) =
-    came_entry C past s next c (Connects true) (Connected c) group h.client.took 0 refl one' m (ap (λ y. y.counted) k.around ∙ a.0) (ap (λ y. y.counted_server) k.around ∙ nothing)
-    ∙ ap (λ n. entry c n h.client.took 0 (client_output (s.places c)) (server_output 1 (s.places c))) (let e : servers_made c past + makes c (Comes c (Connects true)) ≡ 1 = omega (arith, none, new) in e)
-    ∙ sym (ap begins_server (entry_is past s c one.once ∙ ap (λ n. entry_seen c n (seen past s c)) none)) in
+    came_row C past s next c (Connects true) (Connected c) group refl m
+    ∙ ap (λ n. row c n h' place) new
+    ∙ ap (λ t. put t (servers_of h'.connects place (suc total))) (same_client c h (Connects true) group refl)
+    ∙ ap (put h.client.took) (one_more h'.connects place total ∙ ap (λ t. servers_of h'.connects place total ++ take t (server_output (suc total) place) ∷ []) fresh ∙ ap (λ l. l ++ [] ∷ []) (each_still c h (Connects true) group place total refl)) in
     one_changed past (x ∷ past) s next c begins_server (accepted past) rises.distinct (came_others C past s next c (Connects true) (Connected c) group refl m) own

@@ -12,8 +12,8 @@ use Rattle.core_events.specs.declared.note.Cause.TheVariants.{Memory}
 use Rattle.core_events.specs.declared.note.Note.{Note}
 use Rattle.core_events.specs.declared.note.Note.TheVariants.{Finish}
 use Rattle.core_events.specs.declared.event_kind.EventKind.TheVariants.{Accepts}
-use Rattle.conn_trace.specs.Heard.{Accepted}
-use Rattle.conn_trace.specs.Item.{client_output, server_output}
+use Rattle.conn_trace.specs.Heard.{Accepted, Heard}
+use Rattle.conn_trace.specs.Item.{Item, client_output}
 use Rattle.proxy_core.specs.Moves.{Leads, Moves}
 use Rattle.core_events.specs.Kinds.{kind_of}
 use Rattle.record_model.specs.Past.{Happened, Past, shared}
@@ -21,7 +21,7 @@ use Rattle.proxy_core.specs.Ready.{is_in}
 use Rattle.record_model.specs.Refusal.{refusal_rows}
 use Rattle.proxy_core.specs.Refusal.{known}
 use Rattle.proxy_core.specs.Refusal.{refused}
-use Rattle.proxy_core.specs.Scheduler.{State, Seen, last_took, seen}
+use Rattle.proxy_core.specs.Scheduler.{State, Seen, seen}
 use Rattle.proxy_core.specs.Sound.{unseen, Sound}
 use Rattle.run_config.specs.declared.config.Config.{Config}
 use Rattle.core_events.specs.declared.event.Event.{Event}
@@ -35,10 +35,10 @@ use Rattle.proxy_core.proofs.SoundPast.{none_holds, not_accepted}
 use Rattle.number_table.specs.Table.{Rises}
 use Rattle.number_table.proofs.Numbers.{rises_push}
 use Rattle.proxy.specs.declared.taken.Taken.{Taken}
-use Rattle.proxy_core.specs.Servers.{servers_made, took_of as took_of_number}
-use Rattle.proxy.specs.Replay.{accepted, numbers_to, taken_bytes, taken_by, taken_of}
+use Rattle.proxy_core.specs.Servers.{servers_made}
+use Rattle.proxy.specs.Replay.{accepted, taken_by, taken_of}
 use Rattle.proxy.specs.Taken.{AreRising, none_taken}
-use Rattle.proxy.proofs.MadeServers.{none_made, other_makes, servers_are, servers_seen}
+use Rattle.proxy.proofs.MadeServers.{none_made, other_makes, servers_of}
 
 -- accepted numbers rise
 pub record Rising (past : Past) : Type 0 where
@@ -83,25 +83,12 @@ conns_of past s (c ∷ numbers) = ap (λ ns. c ∷ ns) (conns_of past s numbers)
 pub are_rising : (C : Config) (past : Past) (s : State) (taken : List Taken) → Leads C past s → taken ≡ taken_of past s (accepted past) → AreRising taken
 are_rising C past s taken leads is = rw (is, conns_of past s (accepted past)) ((rising C past s leads).rises)
 
--- what is kept of one connection, by how many servers of it were made and by what is seen of it
+-- what is kept of one connection, by how many servers of it were made, what was heard, and its items
+abbrev pub row : (c n : ℕ) → Heard → List Item → Taken
+row c n h place = record { conn = c; client = take h.client.took (client_output place); servers = servers_of h.connects place n }
+
 abbrev pub kept_of : (c n : ℕ) → Seen → Taken
-kept_of c n z = record {
-  conn = c;
-  client = take z.heard.client.took (client_output z.place);
-  servers = map (λ k. take (took_of_number z.heard.connects k) (server_output k z.place)) (numbers_to n);
-}
-
--- the same by numbers and bytes, where one server is made at most
-abbrev pub entry : (c n took_client took_server : ℕ) → (to_client to_server : List ℕ) → Taken
-entry c n t u a b = record { conn = c; client = take t a; servers = servers_seen n (take u b) }
-
-abbrev pub entry_seen : (c n : ℕ) → Seen → Taken
-entry_seen c n z = entry c n z.heard.client.took (last_took z.heard.connects) (client_output z.place) (server_output 1 z.place)
-
-pub entry_is : (past : Past) (s : State) (c : ℕ) → servers_made c past ≤ 1 → taken_by past s c ≡ entry_seen c (servers_made c past) (seen past s c)
-entry_is past s c few =
-    let put : List (List ℕ) → Taken = λ l. record { conn = c; client = taken_bytes past s c; servers = l } in
-    ap put (servers_are past s c few)
+kept_of c n z = row c n z.heard z.place
 
 -- of another connection it stays
 pub other_stays : (C : Config) (past : Past) (s next : State) (e : Event) (group : List Note) → Moves C past (record { event = e; group = group }) s next → (q : ℕ) → nat_eq (about (kind_of e) s) q ≡ false

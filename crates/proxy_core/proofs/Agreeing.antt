@@ -1,5 +1,5 @@
 -- What every event owes: the core agrees with the longer past where its own connection does; and an accepted one.
-use Rattle.std.proofs.Common.{◌≡◌, refl, sym, ap, subst, ◌∙◌, ℕ, suc, ◌+◌, ◌-◌, ◌≤◌, arith, List, Bool, true, false, not, Option, Some, None, nat_eq, if◌then◌else◌, remove, set, ◌⊎◌, inl, inr, [], ◌∷◌, ◌++◌}
+use Rattle.std.proofs.Common.{◌≡◌, refl, sym, ap, subst, ◌∙◌, ℕ, suc, ◌+◌, ◌-◌, ◌≤◌, arith, List, Bool, true, false, not, Option, Some, None, nat_eq, if◌then◌else◌, remove, set, ◌⊎◌, inl, inr, [], ◌∷◌, ◌++◌, length}
 use Rattle.std.specs.Prelude.{slice_get, is_some, option_and_then}
 use Rattle.std.specs.List.{IsDistinct, position_from}
 use Rattle.std.specs.Str.{bytes_eq}
@@ -161,7 +161,7 @@ begun C places c place vs from (Some conn) group all e b =
       continues = inl (record {
         not_failed = refl;
         holds = begins.0;
-        queues = record { client = ap (λ x. x.client.queued) b.2.1; server = ap (λ x. x.server.queued) b.2.1; lost = ap (λ x. x.lost) b.2.1 };
+        queues = record { client = ap (λ x. x.client.queued) b.2.1; server = λ there. ap (λ x. x.server.queued) b.2.1; lost = ap (λ x. length x.server.queued + x.lost) b.2.1 };
         paid = begins.1;
       });
       edges = sym (ap (λ x. x.edges) b.2.1);

@@ -28,16 +28,6 @@ silent_left j (Some s ∷ more) place none =
     let here = none j (omega arith) in
     let rest = silent_left (suc j) more place (λ n le. none n (omega (arith, le))) in omega (arith, here, rest)
 
--- of one at most
-pub one_left : (cs : List (Option SideHeard)) (place : List Item) → made cs ≤ 1 → servers_left 1 cs place ≡ (if has_made cs then length (server_output 1 place) - last_took cs else 0)
-one_left [] place few = refl
-one_left (None ∷ more) place few = one_left more place few
-one_left (Some s ∷ more) place few =
-    let none : made more ≡ 0 = omega (arith, few) in
-    let rest = nothing_left 2 more place none in
-    let first : (length (server_output 1 place) - s.took) + servers_left 2 more place ≡ length (server_output 1 place) - s.took = omega (arith, rest) in
-    first ∙ ap (λ b. length (server_output 1 place) - (if b then last_took more else s.took)) (sym (has_none more none))
-
 -- where nothing is left each took all that was sent to it
 pub left_none : (j : ℕ) (cs : List (Option SideHeard)) (place : List Item) → servers_left j cs place ≡ 0 → (n k : ℕ) → n ≡ j + k → suc k ≤ made cs → length (server_output n place) ≤ took_behind k cs
 left_none j [] place e n k is within = absurd (omega (arith, within))

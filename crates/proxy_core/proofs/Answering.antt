@@ -33,7 +33,9 @@ use Rattle.run_config.specs.declared.config.Config.{Config}
 use Rattle.proxy_core.proofs.Besides.{replies_are}
 use Rattle.proxy_core.proofs.GroupNotes.{of_items, entries_items, entries_on, due_entries, closing_due, settling_due}
 use Rattle.proxy_core.proofs.RunOn.{told_due}
-use Rattle.proxy_core.proofs.PlainRuns.{runs_noted, out_told}
+use Rattle.conn.specs.Servers.{run_notes}
+use Rattle.conn_trace.specs.Gates.{Counts, TakenCounts}
+use Rattle.proxy_core.proofs.RunNotes.{entries_runs, of_runs}
 
 -- ---- one history
 
@@ -48,8 +50,8 @@ none_answered C past (Marks pool member up) = tt
 no_entries : (C : Config) (past : Past) (v : EventKind) (group notes : List Note) → group ≡ notes → entries_in notes ≡ [] → AreAnswers C past v (entries_in group)
 no_entries C past v group notes e none = let P : List _ → Type 0 = λ es. AreAnswers C past v es in subst P (sym (ap entries_in e ∙ none)) (none_answered C past v)
 
-run_entries : (c : ℕ) (more : List Item) (behind : List Note) → entries_in behind ≡ [] → entries_in (notes_of c more ++ behind) ≡ []
-run_entries c more behind none = entries_on (notes_of c more) behind ∙ ap (λ es. es ++ entries_in behind) (entries_items c (notes_of c more) (of_items c more)) ∙ none
+run_entries : (c : ℕ) (sent : Counts) (took : TakenCounts) (more : List Item) (behind : List Note) → entries_in behind ≡ [] → entries_in (run_notes c sent took more ++ behind) ≡ []
+run_entries c sent took more behind none = entries_on (run_notes c sent took more) behind ∙ ap (λ es. es ++ entries_in behind) (entries_runs c (run_notes c sent took more) (of_runs c sent took more)) ∙ none
 
 ring_answers : (C : Config) (past : Past) (ring : List ℕ) (group : List Note) (old new : State) → MovesRing C past ring group old new → AreAnswers C past Runs (entries_in group)
 ring_answers C past [] group old new m = no_entries C past Runs group [] m.0 refl
@@ -62,14 +64,19 @@ ring_answers C past (c ∷ rest) group old new m = by_failed (heard c past).fail
         no_entries C past Runs group (closing c e d) k.notes (due_entries c (closing c e d) (closing_due c e d))
     by_failed false (inl k) =
         let h = heard c past in
-        let e = edges_noted (notes_of c k.more) h.edges in
+        let sent = (stand_of C h (old.places c)).sent in
+        let notes = run_notes c sent (taken h) k.more in
+        let e = edges_noted notes h.edges in
         let d = untaken_all h (old.places c ++ k.more) in
         let behind = told_behind k.turn (setup_of C h) (taken h) k.at c e d in
-        no_entries C past Runs group (notes_of c k.more ++ behind) (runs_noted k.items) (run_entries c k.more behind (due_entries c behind (told_due k.turn (setup_of C h) (taken h) k.at c e d)))
+        no_entries C past Runs group (notes ++ behind) k.items.noted (run_entries c sent (taken h) k.more behind (due_entries c behind (told_due k.turn (setup_of C h) (taken h) k.at c e d)))
     by_failed false (inr k) =
-        let e = edges_noted (notes_of c k.more) (heard c past).edges in
-        let d = untaken_all (heard c past) (old.places c ++ k.more) in
-        no_entries C past Runs group (notes_of c k.more ++ Finish c Memory ∷ closing c e d) (out_told k) (run_entries c k.more (Finish c Memory ∷ closing c e d) (due_entries c (closing c e d) (closing_due c e d)))
+        let h = heard c past in
+        let sent = (stand_of C h (old.places c)).sent in
+        let notes = run_notes c sent (taken h) k.more in
+        let e = edges_noted notes h.edges in
+        let d = untaken_all h (old.places c ++ k.more) in
+        no_entries C past Runs group (notes ++ Finish c Memory ∷ closing c e d) k.notes (run_entries c sent (taken h) k.more (Finish c Memory ∷ closing c e d) (due_entries c (closing c e d) (closing_due c e d)))
 
 input_answers : (C : Config) (past : Past) (c : ℕ) (input : Input) (group : List Note) (old new : State) → MovesCome C input (heard c past) (hears c (heard c past) (Comes c input) group) c group old new → AreAnswers C past (Comes c input) (entries_in group)
 input_answers C past c input group old new m = by_failed (heard c past).failed m

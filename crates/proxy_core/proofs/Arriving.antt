@@ -18,10 +18,14 @@ use Rattle.conn_trace.specs.Setup.{Setup}
 use Rattle.conn_trace.specs.State.{Stream, ServerSide, NoServer, Sought, There, Leaving, Retired, Phase, Answering, TraceState, link_of}
 use Rattle.conn_trace.specs.Trace.{Unfolds}
 use Rattle.core_events.specs.declared.edges.EdgeState.{EdgeState}
-use Rattle.conn_trace.proofs.Lying.{Before, Lies, allowed, item_lies}
+use Rattle.conn_trace.proofs.Lying.{Lies, allowed, item_lies}
 use Rattle.conn_trace.proofs.Streams.{link_same}
-use Rattle.proxy_core.specs.Servers.{OwnItems, Linked, awaits}
-use Rattle.proxy_core.proofs.ServerLaws.{own_rest, own_first, Unserved, unserved_step}
+use Rattle.proxy_core.specs.Servers.{Linked, awaits}
+use Rattle.conn_trace.specs.Gates.{TakenCounts}
+use Rattle.conn_trace.specs.Phases.{Orderly}
+use Rattle.conn_trace.specs.Spoken.{Speaks}
+use Rattle.conn_trace.proofs.Speaking.{item_speaks}
+use Rattle.conn_trace.proofs.Stepping.{steps}
 
 few_more : (n : ℕ) (c : Coming) (s : Stream) → FewUnread n s → length s.unread + length c.bytes ≤ n → FewUnread n (longer_stream c s)
 few_more n c s few room = by_end s.ended
@@ -172,27 +176,25 @@ longer_lies l f w waits room = record {
 
 -- ---- along items
 
-before : (http : Bool) (l : TraceState) → Unserved http l → Before l
-before http l u = record {
-  orderly = u.orderly;
-  spoken = http;
-  speaks = u.speaks;
-}
+-- it speaks HTTP, or not, wherever it stands
+pub speaks_along : (g : Setup) (l m : TraceState) (items : List Item) → Speaks g.http l → Unfolds g l items m → Speaks g.http m
+speaks_along g l m [] s is = subst (Speaks g.http) is s
+speaks_along g l m (i ∷ items) s (mid, step, rest) = speaks_along g mid m items (item_speaks g g.http l mid i s step) rest
 
-pub lies_along : (g : Setup) → HeadsFit g → (l m : TraceState) (items : List Item) → OwnItems g items → Unserved g.http l → Lies l → Unfolds g l items m → Lies m × PassWithin unread_limit items
-lies_along g fits l m [] own u w is = (subst Lies is w, tt)
-lies_along g fits l m (i ∷ items) own u w (mid, step, rest) =
-    let one = item_lies g fits l mid i w (before g.http l u) step in
-    let more = lies_along g fits mid m items (own_rest g i items own) (unserved_step g l mid i (own_first g i items own) u step) one.0 rest in
+pub lies_along : (g : Setup) → HeadsFit g → (l m : TraceState) (items : List Item) → Orderly l → Speaks g.http l → Lies l → Unfolds g l items m → Lies m × PassWithin unread_limit items
+lies_along g fits l m [] o s w is = (subst Lies is w, tt)
+lies_along g fits l m (i ∷ items) o s w (mid, step, rest) =
+    let one = item_lies g fits l mid i w (record { orderly = o; spoken = g.http; speaks = s }) step in
+    let more = lies_along g fits mid m items (steps g l mid i o step).orderly (item_speaks g g.http l mid i s step) one.0 rest in
     (more.0, (one.1, more.1))
 
 -- an answer waits only where there is no server yet
-pub waiting_at : {http : Bool} (l : TraceState) (finished : Bool) (edge : EdgeState) → Unserved http l → Lies l → Linked finished l edge → Waiting l
-waiting_at l finished edge u w k = by_phase l.phase refl k.waits
+pub waiting_at : (l : TraceState) (finished : Bool) (took : TakenCounts) (edge : EdgeState) → Orderly l → Lies l → Linked finished took l edge → Waiting l
+waiting_at l finished took edge o w k = by_phase l.phase refl k.waits
   where
     calm : (to : Addr) → l.phase ≡ Answering to → allowed Server l ≤ 0
     calm to e =
-        let asks = w.calm (subst (λ p. OrderlyIn p l.finished (link_of l.server)) e u.orderly).1 in
+        let asks = w.calm (subst (λ p. OrderlyIn p l.finished (link_of l.server)) e o).1 in
         let none : allowed Server l ≡ asked_bytes (collected Server l.host.net).asks = ap (λ p. if in_event_of Server p then 0 else asked_bytes (collected Server l.host.net).asks) e in
         let zero_asked = ap asked_bytes asks in
         omega (arith, none, zero_asked)

@@ -9,7 +9,7 @@ use Rattle.px_bytes.specs.declared.fault.Reply.{Reply}
 use Rattle.shared_store.specs.Calls.{reply}
 use Rattle.shared_store.specs.Store.{StoreState}
 use Rattle.conn_trace.specs.Bounds.{PassWithin}
-use Rattle.core_events.specs.Edges.{edges_noted, is_open}
+use Rattle.core_events.specs.Edges.{edges_noted}
 use Rattle.conn_trace.specs.Further.{CutMeets, is_some_of, longer, replies_only}
 use Rattle.conn_trace.specs.Gates.{TakenCounts, no_bytes}
 use Rattle.core_events.specs.declared.event_kind.EventKind.{EventKind}
@@ -45,7 +45,7 @@ use Rattle.proxy_core.specs.Moves.{MovesFailed, MovesLacks, MovesOn, MovesCome, 
 use Rattle.proxy_core.specs.Others.{about, front}
 use Rattle.core_events.specs.Kinds.{kind_of}
 use Rattle.record_model.specs.Past.{Past, heard, shared}
-use Rattle.record_model.specs.Refusal.{by_edges, comes_too_much, is_late, refusal_rows}
+use Rattle.record_model.specs.Refusal.{comes_too_much, refusal_rows}
 use Rattle.proxy_core.specs.Refusal.{known, refused, standing_by}
 use Rattle.proxy_core.specs.Scheduler.{State, Seen, seen, untaken_all}
 use Rattle.record_model.specs.Setup.{begins_at, setup_in, setup_of, stand_of}
@@ -54,23 +54,22 @@ use Rattle.proxy_core.specs.Sound.{unseen, Served, Sound, SoundAt}
 use Rattle.proxy_core.specs.declared.call.Asked.{Asked}
 use Rattle.run_config.specs.declared.config.Config.{Config}
 use Rattle.proxy_core.proofs.Setups.{heads_fit}
-use Rattle.proxy_core.proofs.Arriving.{HeldOf, Room, Waiting, held_of, lies_along, longer_lies, nothing_fits, waiting_at}
+use Rattle.proxy_core.proofs.Arriving.{HeldOf, Room, Waiting, held_of, lies_along, longer_lies, nothing_fits, speaks_along, waiting_at}
 use Rattle.proxy_core.proofs.CameAt.{UncutOr, heard_uncut}
 use Rattle.proxy_core.proofs.Entries.{calls_front}
-use Rattle.proxy_core.proofs.Finished.{heard_finish, trace_finished}
+use Rattle.proxy_core.proofs.Drains.{longer_orderly}
+use Rattle.proxy_core.proofs.Finished.{heard_finish, stands_orderly, trace_finished}
 use Rattle.proxy_core.proofs.Framing.{each_by, only_changed, touches}
 use Rattle.proxy_core.proofs.GroupNotes.{About, closing_due, due_about, due_choices, due_cut, due_quiet, due_replies, quiet_by, quiet_finish, settling_due, tells_all}
 use Rattle.proxy_core.proofs.Members.{eq_self}
 use Rattle.proxy_core.proofs.RunOn.{told_due}
 use Rattle.proxy_core.proofs.SoundComes.{MayCome}
 use Rattle.proxy_core.proofs.SoundAccepts.{first_notes, fresh, seen_accept}
-use Rattle.proxy_core.proofs.ServerLaws.{unserved_longer}
-use Rattle.proxy_core.proofs.ServerLeft.{unserved_at}
 use Rattle.proxy_core.proofs.SoundPast.{front_served, leads_sound, marked_accepted, may_come_at, none_holds, not_accepted, ran_on}
 use Rattle.proxy_core.proofs.Standing.{as_served, is_served, stands_at}
 use Rattle.proxy_core.proofs.Sums.{finish_of_causes}
-use Rattle.proxy_core.proofs.PlainRuns.{runs_noted, out_told}
-use Rattle.proxy_core.proofs.OwnItems.{own_more}
+use Rattle.conn.specs.Servers.{run_notes}
+use Rattle.conn_trace.proofs.Speaking.{longer_speaks, start_speaks}
 
 -- of a connection few bytes lie unread, and no item passed on more
 pub record FewBytes (C : Config) (h : Heard) (place : List Item) : Type 0 where
@@ -83,7 +82,7 @@ joined n (i ∷ place) more w v = (w.0, joined n place more w.1 v)
 
 -- an answer waits only where nothing of the server is collected
 waits_for : (C : Config) (c : ℕ) (z : Seen) → Served C c z → Lies (stand_of C z.heard z.place) → Waiting (stand_of C z.heard z.place)
-waits_for C c z k w = waiting_at (stand_of C z.heard z.place) z.heard.finished z.heard.edges.server.state (unserved_at (setup_of C z.heard) z.heard z.place (stand_of C z.heard z.place) k.own k.stands) w k.linked
+waits_for C c z k w = waiting_at (stand_of C z.heard z.place) z.heard.finished (taken z.heard) z.heard.edges.server.state (stands_orderly C c z k) w k.linked
 
 -- ---- what comes has room
 
@@ -101,10 +100,6 @@ found_memory C c z k told going = by_failed z.heard.failed refl
         let causes = map cause_of (reasons_in z.place) in
         let done : z.heard.finished ≡ true = told ∙ finish_of_causes z.heard.notes ∙ ap (λ x. is_some_of x) (k.causes ∙ ap (λ b. causes ++ causes_behind b) e) ∙ some_last causes in
         absurd (true≢false (sym done ∙ going))
-
-open_end : (x : Bool) (y : Bool) → not (x && y) ≡ false → x ≡ true
-open_end true y e = refl
-open_end false y e = absurd (true≢false e)
 
 -- no more than is wanted
 few_wanted : (limit unread held n asked : ℕ) (finished : Bool) → finished ≡ false → held ≤ unread → held ≤ asked → unread - held ≤ limit → nat_lt (if finished then limit else limit - (unread - held)) n ≡ false → unread + n ≤ limit + asked
@@ -134,7 +129,7 @@ module _ (C : Config) (past : Past) (old : State) (c : ℕ) where
   bytes_fit : (side : Side) (bytes : List ℕ) → Served C c z → FewBytes C h place → refused C past old (Comes c (Bytes side bytes)) ≡ None → z.live ≡ true → h.finished ≡ false → length (unread_at (arriving side l)) + length bytes ≤ unread_limit + allowed side l
   bytes_fit side bytes k few fine live going =
       let rows = none_holds (refusal_rows C (known C past old (Comes c (Bytes side bytes))) (Comes c (Bytes side bytes))) fine in
-      by_side side rows.1.1.1.1.0 rows.1.1.1.1.1.1.1.0
+      by_side side rows.1.1.1.1.1.1.1.0
     where
       done : l.finished ≡ false
       done = trace_finished C c z k (heard_finish c past) (found_memory C c z k (heard_finish c past) going) ∙ going
@@ -142,18 +137,15 @@ module _ (C : Config) (past : Past) (old : State) (c : ℕ) where
       held : (to : Side) → HeldOf to l
       held to = held_of to l few.lies
 
-      by_side : (to : Side) → by_edges is_late (standing_by C z.live z) (Bytes to bytes) ≡ false → comes_too_much (standing_by C z.live z) (Bytes to bytes) ≡ false → length (unread_at (arriving to l)) + length bytes ≤ unread_limit + allowed to l
-      by_side Client late much =
+      by_side : (to : Side) → comes_too_much (standing_by C z.live z) (Bytes to bytes) ≡ false → length (unread_at (arriving to l)) + length bytes ≤ unread_limit + allowed to l
+      by_side Client much =
           let Q : Bool → Type 0 = λ b. comes_too_much (standing_by C b z) (Bytes Client bytes) ≡ false in
           let P : Bool → Type 0 = λ b. nat_lt (if b then unread_limit else query.wanted Client l) (length bytes) ≡ false in
           few_wanted unread_limit (length (unread_at (arriving Client l))) (counted_held Client l) (length bytes) (allowed Client l) l.finished done (held Client).of_unread (held Client).of_asked (held Client).rest (subst P going (subst Q live much))
-      by_side Server late much =
+      by_side Server much =
           let Q : Bool → Type 0 = λ b. comes_too_much (standing_by C b z) (Bytes Server bytes) ≡ false in
-          let R : Bool → Type 0 = λ b. by_edges is_late (standing_by C b z) (Bytes Server bytes) ≡ false in
-          let there = open_end (is_open h.edges.server.state) _ (subst R live late) in
-          let P : Bool → Type 0 = λ b. nat_lt (if b || not (is_open h.edges.server.state) then unread_limit else query.wanted Server l) (length bytes) ≡ false in
-          let S : Bool → Type 0 = λ b. nat_lt (if not b then unread_limit else query.wanted Server l) (length bytes) ≡ false in
-          few_wanted unread_limit (length (unread_at (arriving Server l))) (counted_held Server l) (length bytes) (allowed Server l) l.finished done (held Server).of_unread (held Server).of_asked (held Server).rest (subst S there (subst P going (subst Q live much)))
+          let P : Bool → Type 0 = λ b. nat_lt (if b then unread_limit else query.wanted Server l) (length bytes) ≡ false in
+          few_wanted unread_limit (length (unread_at (arriving Server l))) (counted_held Server l) (length bytes) (allowed Server l) l.finished done (held Server).of_unread (held Server).of_asked (held Server).rest (subst P going (subst Q live much))
 
   quiet_fits : FewBytes C h place → Fits brought_nothing
   quiet_fits few = nothing_fits l few.lies
@@ -233,14 +225,14 @@ module _ (C : Config) (past : Past) (old : State) (c : ℕ) where
   -- ---- a Run
 
   -- behind the items that it gave
-  gave : (more : List Item) (at : TraceState) (last group : List Note) (new : State) → h.failed ≡ false → Served C c z → Passes g (taken h) l more at → (g.http ≡ true → link_of at.server ≡ Absent) → TellsNothing c last → group ≡ notes_of c more ++ last → new.places c ≡ place ++ more → FewBytes C h place
+  gave : (more : List Item) (at : TraceState) (last group : List Note) (new : State) → h.failed ≡ false → Served C c z → Passes g (taken h) l more at → TellsNothing c last → group ≡ run_notes c l.sent (taken h) more ++ last → new.places c ≡ place ++ more → FewBytes C h place
       → FewBytes C (hears c h Runs group) (new.places c)
-  gave more at last group new found k p alone quiet is same few =
-      let all = notes_of c more ++ last in
+  gave more at last group new found k p quiet is same few =
+      let all = run_notes c l.sent (taken h) more ++ last in
       let f = taken_by_items (taken h) more in
-      let un = unserved_at g h place l k.own k.stands in
-      let own = own_more g f l at more h.finished h.edges.server.state refl un k.linked alone p.passed in
-      let r = lies_along g (heads_fit C h) (longer f l) at more own (unserved_longer f l un) (longer_lies l f few.lies (waits_for C c z k few.lies) (nothing_fits l few.lies)) p.passed in
+      let s = start_of g h in
+      let speaks = speaks_along g s l place (start_speaks g s.client s.answers) k.stands in
+      let r = lies_along g (heads_fit C h) (longer f l) at more (longer_orderly f l (stands_orderly C c z k)) (longer_speaks g.http f l speaks) (longer_lies l f few.lies (waits_for C c z k few.lies) (nothing_fits l few.lies)) p.passed in
       let stands = ran_on C past old c k found more at last quiet p in
       let there : FewBytes C (hears c h Runs all) (place ++ more) = record {
         lies = subst Lies (sym (stands_at C (hears c h Runs all) g (place ++ more) at refl stands)) r.0;
@@ -263,15 +255,15 @@ module _ (C : Config) (past : Past) (old : State) (c : ℕ) where
           let quiet = due_quiet c notes (closing_due c h.edges (untaken_all h place)) in
           with_notes Runs group notes (new.places c) j.notes (ap (λ s. s.places c) j.state) k refl quiet.choices quiet.cut (brought_fits Runs notes few (λ going. quiet_fits few)) few
       by_failed false e (inl j) =
-          let es = edges_noted (notes_of c j.more) h.edges in
+          let es = edges_noted (run_notes c l.sent (taken h) j.more) h.edges in
           let d = untaken_all h (place ++ j.more) in
-          gave j.more j.at (told_behind j.turn g (taken h) j.at c es d) group new e k j.items.passes j.items.alone (due_quiet c _ (told_due j.turn g (taken h) j.at c es d)) (runs_noted j.items) (ap (λ s. s.places c) j.state ∙ placed j.more) few
+          gave j.more j.at (told_behind j.turn g (taken h) j.at c es d) group new e k j.items.passes (due_quiet c _ (told_due j.turn g (taken h) j.at c es d)) j.items.noted (ap (λ s. s.places c) j.state ∙ placed j.more) few
       by_failed false e (inr j) =
-          let es = edges_noted (notes_of c j.more) h.edges in
+          let es = edges_noted (run_notes c l.sent (taken h) j.more) h.edges in
           let d = untaken_all h (place ++ j.more) in
           let last = closing c es d in
           let due = closing_due c es d in
-          gave j.more j.at (Finish c Memory ∷ last) group new e k j.passes j.alone (quiet_by c (Finish c Memory ∷ last) (refl, due_about c last due) (due_replies c last due) (due_choices c last due) (λ t. due_cut c t last due)) (out_told j)
+          gave j.more j.at (Finish c Memory ∷ last) group new e k j.passes (quiet_by c (Finish c Memory ∷ last) (refl, due_about c last due) (due_replies c last due) (due_choices c last due) (λ t. due_cut c t last due)) j.notes
           (ap (λ s. s.places c) j.state ∙ placed j.more) few
 
   -- ---- a Turn

@@ -77,8 +77,9 @@ stood_of C past s c v = record {
   stands = v.stands;
   orderly = stands_orderly C c (seen past s c) v;
   finished = λ found. trace_finished C c (seen past s c) v (heard_finish c past) found;
-  own = v.own;
+  within = v.within;
   linked = v.linked;
+  late = v.late;
 }
 
 may_conn : (i : Input) (l : Live) → MayCome i l → MayConn i l.conn

@@ -26,7 +26,6 @@ use Rattle.px_bytes.specs.declared.fault.Reply.{Reply}
 use Rattle.conn_trace.specs.Tellings.{choices_told, cut_told, failure_told, finish_told, notes_about, replies_told}
 use Rattle.conn_trace.specs.Trace.{GivesNoMore, next_item, Unfolds}
 use Rattle.conn_trace.proofs.Querying.{given_is_due}
-use Rattle.conn_trace.proofs.Telling.{run_tells}
 use Rattle.conn.specs.RunsItems.{Passes, StopsAt, slices_in, is_resting, told_behind}
 use Rattle.conn.specs.Settling.{closing, is_drained, is_over, resting, settling_at, took_all, given_up_at}
 use Rattle.conn.specs.declared.turn.ConnTurn.{ConnTurn}
@@ -43,9 +42,10 @@ use Rattle.record_model.specs.Setup.{setup_of, stand_of}
 use Rattle.proxy_core.specs.declared.call.Asked.{Asked}
 use Rattle.run_config.specs.declared.config.Config.{Config}
 use Rattle.shared_store.specs.Calls.{reply}
-use Rattle.proxy_core.proofs.GroupNotes.{About, AreDue, closing_due, due_about, due_finish, due_quiet, resting_due, settling_due, tells_all}
+use Rattle.proxy_core.proofs.GroupNotes.{About, AreDue, about_joined, closing_due, due_about, due_finish, due_quiet, resting_due, settling_due, tells_all}
 use Rattle.proxy_core.proofs.Members.{in_pushed_self}
-use Rattle.proxy_core.proofs.PlainRuns.{runs_noted, out_notes, out_told}
+use Rattle.conn.specs.Servers.{run_notes}
+use Rattle.proxy_core.proofs.RunNotes.{about_runs, failure_runs, of_runs, run_notes_tell}
 
 -- ---- one Run
 
@@ -137,7 +137,7 @@ one_run g took l m n some others t t' p q w w' k k' choices cuts =
 
 -- without what notes tell of it besides
 bare : Heard → Heard
-bare h = record h { finished = false; failed = false; notes = []; edges = no_edges }
+bare h = record h { late = false; finished = false; failed = false; notes = []; edges = no_edges }
 
 -- by what a group tells
 heard_by : ℕ → Heard → EventKind → (finishes : Bool) → List Reply → List Choice → Option Cut → Heard
@@ -148,6 +148,7 @@ heard_by c h v finishes replies choices cut =
       accepted = m.accepted;
       client = hears_more b.client m.client;
       connects = at_last (hears_more b.server) m.connects ++ b.connects;
+      late = false;
       replies = m.replies ++ replies;
       choices = m.choices ++ choices;
       cut = first_cut m.cut cut;
@@ -302,10 +303,12 @@ module _ (C : Config) (past : Past) (old : State) (one other : List Note) (s t :
       on : (group : List Note) (new : State) → FoundMemory group → RunsOn C h c rest group old new ⊎ RunsOut C h c rest group old new → RunsOn C h c rest group old new
       on group new f (inl k) = k
       on group new f (inr k) =
-          let ends = edges_noted (notes_of c k.more) h.edges in
+          let notes = run_notes c l.sent (taken h) k.more in
+          let runs = of_runs c l.sent (taken h) k.more in
+          let ends = edges_noted notes h.edges in
           let behind = closing c ends (untaken_all h (old.places c ++ k.more)) in
-          absurd (lacks group (out_notes c h.edges k.more (untaken_all h (old.places c ++ k.more))) c f (out_told k)
-          ((run_tells c k.more (Finish c Memory ∷ behind)).failure ∙ fails_alone c behind (due_about c behind (closing_due c ends _))))
+          let about = about_joined c notes (Finish c Memory ∷ behind) (about_runs c notes runs) (refl, due_about c behind (closing_due c ends _)) in
+          absurd (lacks group (notes ++ Finish c Memory ∷ behind) c f k.notes (ap failure_told (tells_all c (notes ++ Finish c Memory ∷ behind) about) ∙ failure_runs c notes (Finish c Memory ∷ behind) runs))
 
       -- what is told where it rests tells nothing
       told_due : (t : ConnTurn) (at : TraceState) (e : Edges) (d : ℕ) → AreDue c (told_behind t g (taken h) at c e d)
@@ -316,7 +319,7 @@ module _ (C : Config) (past : Past) (old : State) (one other : List Note) (s t :
           by_rest false = tt
 
       notes_by : List Item → ConnTurn → TraceState → List Note
-      notes_by more k at = notes_of c more ++ told_behind k g (taken h) at c (edges_noted (notes_of c more) h.edges) (untaken_all h (old.places c ++ more))
+      notes_by more k at = run_notes c l.sent (taken h) more ++ told_behind k g (taken h) at c (edges_noted (run_notes c l.sent (taken h) more) h.edges) (untaken_all h (old.places c ++ more))
 
       after_by : List Item → ConnTurn → State
       after_by more k = ran c (ring_behind k c rest) (queue_behind k c old.queue) more 0 old
@@ -325,17 +328,17 @@ module _ (C : Config) (past : Past) (old : State) (one other : List Note) (s t :
       told_choices : (group : List Note) (new : State) (x : RunsOn C h c rest group old new) → choices_told (notes_about c group) ≡ choices_in x.more
       told_choices group new x =
           let d = untaken_all h (old.places c ++ x.more) in
-          let behind = told_behind x.turn g (taken h) x.at c (edges_noted (notes_of c x.more) h.edges) d in
-          let quiet = due_quiet c behind (told_due x.turn x.at (edges_noted (notes_of c x.more) h.edges) d) in
-          ap (λ (l : List Note). choices_told (notes_about c l)) (runs_noted x.items) ∙ (run_tells c x.more behind).choices
+          let behind = told_behind x.turn g (taken h) x.at c (edges_noted (run_notes c l.sent (taken h) x.more) h.edges) d in
+          let quiet = due_quiet c behind (told_due x.turn x.at (edges_noted (run_notes c l.sent (taken h) x.more) h.edges) d) in
+          ap (λ (l : List Note). choices_told (notes_about c l)) x.items.noted ∙ (run_notes_tell c l.sent (taken h) x.more behind).choices
           ∙ ap (λ (l : List Choice). choices_in x.more ++ l) quiet.choices ∙ append-nil (choices_in x.more)
 
       told_cut : (group : List Note) (new : State) (x : RunsOn C h c rest group old new) → cut_told (taken h) (notes_about c group) ≡ cut_in (taken h) x.more
       told_cut group new x =
           let d = untaken_all h (old.places c ++ x.more) in
-          let behind = told_behind x.turn g (taken h) x.at c (edges_noted (notes_of c x.more) h.edges) d in
-          let quiet = due_quiet c behind (told_due x.turn x.at (edges_noted (notes_of c x.more) h.edges) d) in
-          ap (λ (l : List Note). cut_told (taken h) (notes_about c l)) (runs_noted x.items) ∙ (run_tells c x.more behind).cut (taken h) (quiet.cut (taken h))
+          let behind = told_behind x.turn g (taken h) x.at c (edges_noted (run_notes c l.sent (taken h) x.more) h.edges) d in
+          let quiet = due_quiet c behind (told_due x.turn x.at (edges_noted (run_notes c l.sent (taken h) x.more) h.edges) d) in
+          ap (λ (l : List Note). cut_told (taken h) (notes_about c l)) x.items.noted ∙ (run_notes_tell c l.sent (taken h) x.more behind).cut (taken h) (quiet.cut (taken h))
 
       by : (b : Bool) → MatchBool b (RunsFailed h c rest one old s) (RunsOn C h c rest one old s ⊎ RunsOut C h c rest one old s)
           → MatchBool b (RunsFailed h c rest other old t) (RunsOn C h c rest other old t ⊎ RunsOut C h c rest other old t) → Same
@@ -354,7 +357,7 @@ module _ (C : Config) (past : Past) (old : State) (one other : List Note) (s t :
           ap (λ (m : List Item). after_by m y.turn) it.0.items ∙ ap (after_by x.more) it.1 in
           let spent = ap (λ k. ran c (ring_behind x.turn c rest) (queue_behind x.turn c old.queue) x.more k old) (slices_whole x.turn (length one) w) in
           let spent' = ap (λ k. ran c (ring_behind y.turn c rest) (queue_behind y.turn c old.queue) y.more k old) (slices_whole y.turn (length other) w') in
-          (runs_noted x.items ∙ sym notes ∙ sym (runs_noted y.items), (x.state ∙ spent) ∙ sym after ∙ sym (y.state ∙ spent'))
+          (x.items.noted ∙ sym notes ∙ sym y.items.noted, (x.state ∙ spent) ∙ sym after ∙ sym (y.state ∙ spent'))
 
   runs_same : (ring : List ℕ) → old.ring ≡ ring → MovesRing C past ring one old s → MovesRing C past ring other old t → RunsWhole Runs old s → RunsWhole Runs old t
       → Same

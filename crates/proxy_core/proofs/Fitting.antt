@@ -14,7 +14,7 @@ use Rattle.core_events.specs.declared.note.Note.{Note}
 use Rattle.core_events.specs.declared.note.Note.TheVariants as note
 use Rattle.core_events.specs.Edges.{edge_of, edges_noted}
 use Rattle.conn_trace.specs.Further.{longer}
-use Rattle.conn_trace.specs.Gates.{TakenCounts}
+use Rattle.conn_trace.specs.Gates.{Counts, TakenCounts, to_take}
 use Rattle.core_events.specs.declared.event_kind.EventKind.{EventKind}
 use Rattle.core_events.specs.declared.event_kind.EventKind.TheVariants.{Accepts, Comes, Ticks}
 use Rattle.core_events.specs.declared.event_kind.EventKind.TheVariants.{Turns, Runs, Marks}
@@ -31,6 +31,7 @@ use Rattle.conn_trace.specs.Tellings.{own}
 use Rattle.conn_trace.specs.Trace.{next_item, Unfolds}
 use Rattle.conn_trace.proofs.Stepping.{steps}
 use Rattle.conn.specs.RunsItems.{Passes, told_behind}
+use Rattle.conn.specs.Servers.{run_notes}
 use Rattle.conn.specs.Settling.{closing, is_over, settling_at, took_all, given_up_at}
 use Rattle.shared_store.specs.Calls.{reply}
 use Rattle.shared_store.specs.Store.{StoreState}
@@ -43,7 +44,7 @@ use Rattle.proxy_core.specs.Others.{about, front}
 use Rattle.core_events.specs.Kinds.{kind_of}
 use Rattle.record_model.specs.Past.{Past, heard, shared}
 use Rattle.proxy_core.specs.Scheduler.{State, Seen, seen, untaken_all}
-use Rattle.proxy_core.specs.Servers.{is_used, awaits, LinkedAt, Linked}
+use Rattle.proxy_core.specs.Servers.{is_serving, is_used, awaits, LinkedAt, Linked}
 use Rattle.record_model.specs.Setup.{setup_of, stand_of}
 use Rattle.proxy_core.specs.Sound.{is_closed, Served, Sound}
 use Rattle.proxy_core.specs.declared.call.Asked.{Asked as Call}
@@ -55,13 +56,12 @@ use Rattle.proxy_core.proofs.Framing.{touches}
 use Rattle.proxy_core.proofs.GroupNotes.{About, about_items, about_joined, closing_due, due_about, of_items, own_all, own_none, settling_due}
 use Rattle.proxy_core.proofs.Linking.{RunLinked, fit_joined, linked_now, linked_then, longer_linked, run_linked}
 use Rattle.proxy_core.proofs.Members.{eq_same, eq_self}
-use Rattle.proxy_core.proofs.ServerLaws.{unserved_longer, went_on}
-use Rattle.proxy_core.proofs.ServerLeft.{unserved_at}
+use Rattle.proxy_core.proofs.RunNotes.{about_runs, of_runs, runs_client}
+use Rattle.proxy_core.proofs.ServerLaws.{ordered_longer, went_on}
+use Rattle.proxy_core.proofs.ServerLeft.{ordered_at}
 use Rattle.proxy_core.proofs.SoundPast.{front_served, leads_sound}
 use Rattle.proxy_core.proofs.ServerGone.{never}
 use Rattle.proxy_core.proofs.DueFits.{Begun, client_begun, fit_settling, fit_closing, HalvesThere, fit_behind, about_behind}
-use Rattle.proxy_core.proofs.PlainRuns.{runs_noted, out_told}
-use Rattle.proxy_core.proofs.OwnItems.{own_more}
 
 -- ---- a half-close is due on a connection that relays
 
@@ -109,28 +109,23 @@ not_before : (g : Setup) (l at : TraceState) (items : List Item) → Orderly l �
 not_before g l at [] o is e = ap (λ x. x.finished) is ∙ e
 not_before g l at (i ∷ items) o (mid, step, rest) e = let s = steps g l mid i o step in went_on l mid i s (not_before g mid at items s.orderly rest e)
 
-item_client : (c : ℕ) (i : Item) (e : Edges) → (edges_noted (note_of c i) e).client ≡ e.client
-item_client c (Passed from to bytes) e = refl
-item_client c (Fired side n) e = refl
-item_client c (Reused kept) e = refl
-item_client c (Connected to) e = refl
-item_client c (Logged text) e = refl
-item_client c (Finished reason) e = refl
-item_client c other e = refl
-
-items_client : (c : ℕ) (items : List Item) (e : Edges) → (edges_noted (notes_of c items) e).client ≡ e.client
-items_client c [] e = refl
-items_client c (i ∷ items) e = ap (λ x. x.client) (edges_joined (note_of c i) (notes_of c items) e) ∙ items_client c items (edges_noted (note_of c i) e) ∙ item_client c i e
-
 -- its items' notes fit, and behind them what is to be half closed is there
-record RunFits (took : TakenCounts) (at : TraceState) (c : ℕ) (more : List Item) (e : Edges) : Type 0 where
-  items : Fit (notes_of c more) e
-  halves : HalvesThere took at (edges_noted (notes_of c more) e)
+record RunFits (took : TakenCounts) (l at : TraceState) (c : ℕ) (more : List Item) (e : Edges) : Type 0 where
+  items : Fit (run_notes c l.sent took more) e
+  halves : HalvesThere took at (edges_noted (run_notes c l.sent took more) e)
+
+-- one that is up is served
+up_serves : (k : Link) → is_up k ≡ true → is_serving k ≡ true
+up_serves Up e = refl
+up_serves Absent e = never e
+up_serves Asked e = never e
+up_serves (Left b) e = never e
+up_serves GivenUp e = never e
 
 module _ (C : Config) (past : Past) (old : State) (sound : Sound C past old) where
   front_fits : (c : ℕ) (more : List Item) (at : TraceState) → (heard c past).failed ≡ false → is_some (heard c past).accepted ≡ true → Served C c (seen past old c)
-      → Passes (setup_of C (heard c past)) (taken (heard c past)) (stand_of C (heard c past) (old.places c)) more at → ((setup_of C (heard c past)).http ≡ true → link_of at.server ≡ Absent) → RunFits (taken (heard c past)) at c more (heard c past).edges
-  front_fits c more at found accepted k p alone =
+      → Passes (setup_of C (heard c past)) (taken (heard c past)) (stand_of C (heard c past) (old.places c)) more at → RunFits (taken (heard c past)) (stand_of C (heard c past) (old.places c)) at c more (heard c past).edges
+  front_fits c more at found accepted k p =
       record { items = ran.fits; halves = λ side due. by_side side due (relays at (taken h) side due) }
     where
       z : Seen
@@ -151,28 +146,30 @@ module _ (C : Config) (past : Past) (old : State) (sound : Sound C past old) whe
       same : l.finished ≡ h.finished
       same = trace_finished C c z k (heard_finish c past) found
 
-      was : Linked l.finished l s
-      was = linked_now h.finished l.finished l s s (λ x. sym same ∙ x) (λ x. refl) k.linked
+      was : Linked l.finished (taken h) l s
+      was = linked_now h.finished l.finished (taken h) l s s (λ x. sym same ∙ x) (λ x. refl) k.linked
 
-      ran : RunLinked at c more h.edges
+      ran : RunLinked (taken h) (longer (taken_by_items (taken h) more) l) at c more h.edges
       ran =
           let f = taken_by_items (taken h) more in
-          let un = unserved_at g h z.place l k.own k.stands in
-          run_linked g (longer f l) at more c h.edges (own_more g f l at more h.finished s refl un k.linked alone p.passed) (unserved_longer f l un) (longer_linked l.finished f l s refl was) p.passed
+          run_linked g (taken h) (longer f l) at more c h.edges (ordered_longer f l (ordered_at g h z.place l k.stands)) (longer_linked l.finished (taken h) f l s refl was) p.met p.passed
+
+      notes : List Note
+      notes = run_notes c l.sent (taken h) more
 
       ends : Edges
-      ends = edges_noted (notes_of c more) h.edges
+      ends = edges_noted notes h.edges
 
       by_begun : l.finished ≡ false → Begun h.edges → is_used h.edges.client.state ≡ true
       by_begun going (inl opens) = ap is_used opens
-      by_begun going (inr shut) = absurd (true≢false (sym (k.closed_over found Client (ap is_closed shut)).1 ∙ going))
+      by_begun going (inr shut) = absurd (true≢false (sym ((k.closed_over found).client (ap is_closed shut)).1 ∙ going))
 
       by_side : (side : Side) → half_close_due at (taken h) side ≡ true → Relays at → is_used (edge_of side ends).state ≡ true
       by_side Client due r =
           let f = taken_by_items (taken h) more in
           let going = not_before g (longer f l) at more (longer_orderly f l (stands_orderly C c z k)) p.passed r.going in
-          ap (λ x. is_used x.state) (items_client c more h.edges) ∙ by_begun going (client_begun c past accepted)
-      by_side Server due r = ap is_used (subst (λ b. LinkedAt b ends.server.state) r.up (linked_then at.finished at ends.server.state ran.linked r.settled r.going))
+          ap is_used (runs_client c notes h.edges (of_runs c l.sent (taken h) more)) ∙ by_begun going (client_begun c past accepted)
+      by_side Server due r = ap is_used (subst (λ b. LinkedAt b (given_up_at at) (to_take at.sent (taken h) Server) ends.server.state) (up_serves (link_of at.server) r.up) (linked_then at.finished (taken h) at ends.server.state ran.linked r.settled r.going))
 
   -- its notes fit
   fit_told : (c : ℕ) (group notes : List Note) (e : Edges) → group ≡ notes → About c notes → Fit notes e → Fit (own c group) e
@@ -215,9 +212,13 @@ module _ (C : Config) (past : Past) (old : State) (sound : Sound C past old) whe
       h : Heard
       h = heard c past
 
-      behind : (more : List Item) (last : List Note) → group ≡ notes_of c more ++ last → About c last → Fit (notes_of c more) h.edges → Fit last (edges_noted (notes_of c more) h.edges) → Fit (own c group) h.edges
+      sent : Counts
+      sent = (stand_of C h (old.places c)).sent
+
+      behind : (more : List Item) (last : List Note) → group ≡ run_notes c sent (taken h) more ++ last → About c last → Fit (run_notes c sent (taken h) more) h.edges → Fit last (edges_noted (run_notes c sent (taken h) more) h.edges) → Fit (own c group) h.edges
       behind more last k a f f' =
-          fit_told c group (notes_of c more ++ last) h.edges k (about_joined c (notes_of c more) last (about_items c (notes_of c more) (of_items c more)) a) (fit_joined (notes_of c more) last h.edges f f')
+          let notes = run_notes c sent (taken h) more in
+          fit_told c group (notes ++ last) h.edges k (about_joined c notes last (about_runs c notes (of_runs c sent (taken h) more)) a) (fit_joined notes last h.edges f f')
 
       by_failed : (b : Bool) → h.failed ≡ b → MatchBool b (RunsFailed h c rest group old new) (RunsOn C h c rest group old new ⊎ RunsOut C h c rest group old new) → Fit (own c group) h.edges
       by_failed true found k =
@@ -226,15 +227,15 @@ module _ (C : Config) (past : Past) (old : State) (sound : Sound C past old) whe
       by_failed false found (inl k) =
           let v = front_served C past c rest old ring (sound.each c) in
           let d = untaken_all h (old.places c ++ k.more) in
-          let e = edges_noted (notes_of c k.more) h.edges in
-          let r = front_fits c k.more k.at found v.0 v.1 k.items.passes k.items.alone in
-          behind k.more (told_behind k.turn (setup_of C h) (taken h) k.at c e d) (runs_noted k.items) (about_behind k.turn (setup_of C h) (taken h) k.at c e d) r.items (fit_behind k.turn (setup_of C h) (taken h) k.at c e d r.halves)
+          let e = edges_noted (run_notes c sent (taken h) k.more) h.edges in
+          let r = front_fits c k.more k.at found v.0 v.1 k.items.passes in
+          behind k.more (told_behind k.turn (setup_of C h) (taken h) k.at c e d) k.items.noted (about_behind k.turn (setup_of C h) (taken h) k.at c e d) r.items (fit_behind k.turn (setup_of C h) (taken h) k.at c e d r.halves)
       by_failed false found (inr k) =
           let v = front_served C past c rest old ring (sound.each c) in
           let d = untaken_all h (old.places c ++ k.more) in
-          let e = edges_noted (notes_of c k.more) h.edges in
-          let r = front_fits c k.more k.at found v.0 v.1 k.passes k.alone in
-          behind k.more (note.Finish c Memory ∷ closing c e d) (out_told k) (refl, due_about c (closing c e d) (closing_due c e d)) r.items (refl, fit_closing c e d)
+          let e = edges_noted (run_notes c sent (taken h) k.more) h.edges in
+          let r = front_fits c k.more k.at found v.0 v.1 k.passes in
+          behind k.more (note.Finish c Memory ∷ closing c e d) k.notes (refl, due_about c (closing c e d) (closing_due c e d)) r.items (refl, fit_closing c e d)
 
   ring_fits : (ring : List ℕ) (group : List Note) (new : State) → old.ring ≡ ring → MovesRing C past ring group old new → Fit (own (front ring) group) (heard (front ring) past).edges
   ring_fits [] group new e m = none_fits 0 group (heard 0 past).edges m.0

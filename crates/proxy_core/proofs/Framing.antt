@@ -40,7 +40,8 @@ use Rattle.conn.specs.Settling.{is_over, took_all}
 use Rattle.conn_trace.specs.Trace.{next_item}
 use Rattle.px_bytes.specs.declared.addr.Side.TheVariants.{Client, Server}
 use Rattle.proxy_core.proofs.Members.{eq_same, eq_turned, in_pushed_other, in_without_other}
-use Rattle.proxy_core.proofs.PlainRuns.{runs_noted, out_notes, out_told}
+use Rattle.conn.specs.Servers.{run_notes}
+use Rattle.proxy_core.proofs.RunNotes.{about_runs, of_runs}
 
 not_concerned : (q : ℕ) (v : EventKind) (s : State) → nat_eq (about v s) q ≡ false → concerns q v ≡ false
 not_concerned q (Accepts c vs from) s e = e
@@ -123,17 +124,21 @@ by_ring C past (c ∷ rest) group old new e m = by_failed (heard c past).failed 
         touched c group notes old new (record old { ring = rest }) k.notes k.state (record { notes = due_about c notes (closing_due c (heard c past).edges (untaken_all (heard c past) (old.places c))); ready = λ q h. entries_rest c q rest (eq_turned c q h) ∙ ap (entries q) (sym e); asked = λ q h. refl; place = λ q h. refl; spent = λ q h. refl })
     by_failed false (inl k) =
         let h = heard c past in
-        let ends = edges_noted (notes_of c k.more) h.edges in
+        let notes = run_notes c (stand_of C h (old.places c)).sent (taken h) k.more in
+        let about = about_runs c notes (of_runs c (stand_of C h (old.places c)).sent (taken h) k.more) in
+        let ends = edges_noted notes h.edges in
         let d = untaken_all h (old.places c ++ k.more) in
         let behind = told_behind k.turn (setup_of C h) (taken h) k.at c ends d in
-        ran_touch c rest (ring_behind k.turn c rest) (queue_behind k.turn c old.queue) k.more (slices_in k.turn (length group)) group (notes_of c k.more ++ behind) old new e (λ q h. entries_behind k.turn c q rest h) (λ q h. calls_behind k.turn c q old.queue h) (runs_noted k.items)
-        (about_joined c (notes_of c k.more) behind (about_items c (notes_of c k.more) (of_items c k.more)) (about_behind k.turn (setup_of C h) (taken h) k.at c ends d)) k.state
+        ran_touch c rest (ring_behind k.turn c rest) (queue_behind k.turn c old.queue) k.more (slices_in k.turn (length group)) group (notes ++ behind) old new e (λ q h. entries_behind k.turn c q rest h) (λ q h. calls_behind k.turn c q old.queue h) k.items.noted
+        (about_joined c notes behind about (about_behind k.turn (setup_of C h) (taken h) k.at c ends d)) k.state
     by_failed false (inr k) =
         let h = heard c past in
-        let ends = edges_noted (notes_of c k.more) h.edges in
+        let notes = run_notes c (stand_of C h (old.places c)).sent (taken h) k.more in
+        let about = about_runs c notes (of_runs c (stand_of C h (old.places c)).sent (taken h) k.more) in
+        let ends = edges_noted notes h.edges in
         let d = untaken_all h (old.places c ++ k.more) in
-        ran_touch c rest rest old.queue k.more 0 group (out_notes c h.edges k.more d) old new e (λ q h. refl) (λ q h. refl) (out_told k)
-        (about_joined c (notes_of c k.more) (Finish c Memory ∷ closing c ends d) (about_items c (notes_of c k.more) (of_items c k.more)) (refl, due_about c (closing c ends d) (closing_due c ends d))) k.state
+        ran_touch c rest rest old.queue k.more 0 group (notes ++ Finish c Memory ∷ closing c ends d) old new e (λ q h. refl) (λ q h. refl) k.notes
+        (about_joined c notes (Finish c Memory ∷ closing c ends d) about (refl, due_about c (closing c ends d) (closing_due c ends d))) k.state
 
 by_input : (C : Config) (past : Past) (c : ℕ) (input : Input) (group : List Note) (old new : State) → MovesCome C input (heard c past) (hears c (heard c past) (Comes c input) group) c group old new → Touches c group old new
 by_input C past c input group old new m = by_failed (heard c past).failed m

@@ -7,7 +7,7 @@ use Rattle.core_events.specs.declared.event_kind.EventKind.TheVariants.{Accepts,
 use Rattle.core_events.specs.declared.event_kind.EventKind.TheVariants.{Turns, Runs, Marks}
 use Rattle.core_events.specs.declared.input.Input.{Input}
 use Rattle.core_events.specs.declared.input.Input.TheVariants.{Bytes, Ends, Resets, Connects, Takes}
-use Rattle.conn_trace.specs.Heard.{SideHeard, Heard, hears_more, at_last, Brought, brought_nothing}
+use Rattle.conn_trace.specs.Heard.{SideHeard, Heard, hears_more, at_last, unless_late, Brought, brought_nothing}
 use Rattle.conn_trace.specs.Heard.{brings_in, event_brings, accepts, marks, event_marks, brought}
 use Rattle.conn_trace.specs.Heard.{hears}
 use Rattle.conn_trace.specs.Tellings.{notes_about, finish_told}
@@ -15,12 +15,16 @@ use Rattle.core_events.specs.Kinds.{kind_of}
 use Rattle.record_model.specs.Past.{Past, heard}
 use Rattle.proxy_core.specs.Servers.{made, makes, servers_made}
 
-last_made : (f : SideHeard → SideHeard) (cs : List (Option SideHeard)) → made (at_last f cs) ≡ made cs
+pub last_made : (f : SideHeard → SideHeard) (cs : List (Option SideHeard)) → made (at_last f cs) ≡ made cs
 last_made f [] = refl
 last_made f (None ∷ more) = last_made f more
 last_made f (Some s ∷ more) = ap suc (last_made f more)
 
-joined_made : (cs ds : List (Option SideHeard)) → made (cs ++ ds) ≡ made cs + made ds
+last_unless : (late : Bool) (f : SideHeard → SideHeard) (cs : List (Option SideHeard)) → made (unless_late late f cs) ≡ made cs
+last_unless true f cs = refl
+last_unless false f cs = last_made f cs
+
+pub joined_made : (cs ds : List (Option SideHeard)) → made (cs ++ ds) ≡ made cs + made ds
 joined_made [] ds = omega arith
 joined_made (None ∷ more) ds = joined_made more ds
 joined_made (Some s ∷ more) ds = let k = joined_made more ds in omega (arith, k)
@@ -38,9 +42,9 @@ marks_same (Bytes side bytes) h = same h
 marks_same (Ends side) h = same h
 marks_same (Connects answer) h = same h
 marks_same (Resets Client) h = record { servers = refl; finished = refl }
-marks_same (Resets Server) h = record { servers = last_made (λ s. record s { reset = true }) h.connects; finished = refl }
+marks_same (Resets Server) h = record { servers = last_unless h.late (λ s. record s { reset = true }) h.connects; finished = refl }
 marks_same (Takes Client n) h = record { servers = refl; finished = refl }
-marks_same (Takes Server n) h = record { servers = last_made (λ s. record s { took = s.took + n }) h.connects; finished = refl }
+marks_same (Takes Server n) h = record { servers = last_unless h.late (λ s. record s { took = s.took + n }) h.connects; finished = refl }
 
 event_same : (c : ℕ) (v : EventKind) (h : Heard) → Same h (event_marks c v h)
 event_same c (Accepts d vs from) h = by_number (nat_eq d c)
@@ -101,7 +105,7 @@ input_brings (Takes side n) d c = by_number (nat_eq d c)
     by_number true = refl
     by_number false = refl
 
-event_makes : (c : ℕ) (v : EventKind) → made (event_brings c v).connects ≡ makes c v
+pub event_makes : (c : ℕ) (v : EventKind) → made (event_brings c v).connects ≡ makes c v
 event_makes c (Comes d i) = input_brings i d c
 event_makes c (Accepts d vs from) = refl
 event_makes c (Ticks moment) = refl
@@ -112,6 +116,13 @@ event_makes c (Marks pool member up) = refl
 or_none : (a b : Bool) → (a || b) ≡ false → a ≡ false
 or_none true b e = absurd (true≢false e)
 or_none false b e = refl
+
+-- it makes what it brings
+pub made_more : (c : ℕ) (h : Heard) (v : EventKind) (group : List Note) → made (hears c h v group).connects ≡ made h.connects + made (brought c h v group).connects
+made_more c h v group =
+    let b = brought c h v group in
+    joined_made (at_last (hears_more b.server) (event_marks c v h).connects) b.connects
+    ∙ ap (λ n. n + made b.connects) (last_made (hears_more b.server) (event_marks c v h).connects ∙ (event_same c v h).servers)
 
 -- so many were made
 pub record HeardOf (n : ℕ) (h : Heard) : Type 0 where
@@ -133,13 +144,8 @@ heard_more c n h v group k = record {
     marked : Same h (event_marks c v h)
     marked = event_same c v h
 
-    b : Brought
-    b = brought c h v group
-
-    counted : made (hears c h v group).connects ≡ made h.connects + made b.connects
-    counted =
-        joined_made (at_last (hears_more b.server) (event_marks c v h).connects) b.connects
-        ∙ ap (λ n. n + made b.connects) (last_made (hears_more b.server) (event_marks c v h).connects ∙ marked.servers)
+    counted : made (hears c h v group).connects ≡ made h.connects + made (brought c h v group).connects
+    counted = made_more c h v group
 
     by_finish : (f : Bool) → made (if f then brought_nothing else event_brings c v).connects ≤ makes c v
     by_finish true = omega arith

@@ -13,7 +13,7 @@ use Rattle.core_events.specs.declared.event_kind.EventKind.TheVariants.{Comes, T
 use Rattle.core_events.specs.declared.input.Input.{Input}
 use Rattle.core_events.specs.declared.input.Input.TheVariants.{Bytes, Ends, Resets, Connects, Takes}
 use Rattle.conn_trace.specs.Heard.{SideHeard, Heard, taken_by, side_taken, servers_taken, taken}
-use Rattle.conn_trace.specs.Heard.{has_made, hears_by, hears_more, at_last, as_answer, Brought}
+use Rattle.conn_trace.specs.Heard.{has_made, hears_by, hears_more, at_last, unless_late, as_answer, Brought}
 use Rattle.conn_trace.specs.Heard.{brought_nothing, hear_brought, marks, event_marks, brought}
 use Rattle.conn_trace.specs.Heard.{hears_event, hears, further_of}
 use Rattle.conn_trace.specs.Laws.{AtLeast, TakesMore}
@@ -157,6 +157,10 @@ takes_grow : (r : Bool) (t n : ℕ) → AtLeast (taken_by r t) (taken_by r (t + 
 takes_grow true t n = tt
 takes_grow false t n = omega arith
 
+grown_unless : (late : Bool) (f : SideHeard → SideHeard) → ((s : SideHeard) → AtLeast (side_taken s) (side_taken (f s))) → (cs : List (Option SideHeard)) (k : ℕ) → AtLeast (of_number cs k) (of_number (unless_late late f cs) k)
+grown_unless true f grows cs k = least_same (of_number cs k)
+grown_unless false f grows cs k = grown f grows cs k
+
 abbrev by_numbers : (a b : Heard) → Type 0
 by_numbers a b = AtLeast (side_taken a.client) (side_taken b.client) × ((k : ℕ) → AtLeast (of_number a.connects k) (of_number b.connects k))
 
@@ -165,9 +169,9 @@ marks_grow (Bytes side bytes) h = (least_same (side_taken h.client), λ k. least
 marks_grow (Ends side) h = (least_same (side_taken h.client), λ k. least_same (of_number h.connects k))
 marks_grow (Connects made) h = (least_same (side_taken h.client), λ k. least_same (of_number h.connects k))
 marks_grow (Resets Client) h = (tt, λ k. least_same (of_number h.connects k))
-marks_grow (Resets Server) h = (least_same (side_taken h.client), λ k. grown (λ s. record s { reset = true }) (λ s. tt) h.connects k)
+marks_grow (Resets Server) h = (least_same (side_taken h.client), λ k. grown_unless h.late (λ s. record s { reset = true }) (λ s. tt) h.connects k)
 marks_grow (Takes Client n) h = (takes_grow h.client.reset h.client.took n, λ k. least_same (of_number h.connects k))
-marks_grow (Takes Server n) h = (least_same (side_taken h.client), λ k. grown (λ s. record s { took = s.took + n }) (λ s. takes_grow s.reset s.took n) h.connects k)
+marks_grow (Takes Server n) h = (least_same (side_taken h.client), λ k. grown_unless h.late (λ s. record s { took = s.took + n }) (λ s. takes_grow s.reset s.took n) h.connects k)
 
 brought_grows : (b : Brought) (h : Heard) → by_numbers h (hear_brought b h)
 brought_grows b h = (heard_grows b.client h.client, λ k. least_on (of_number h.connects k) (of_number (at_last (hears_more b.server) h.connects) k) (of_number (at_last (hears_more b.server) h.connects ++ b.connects) k) (grown (hears_more b.server) (heard_grows b.server) h.connects k) (joined (at_last (hears_more b.server) h.connects) b.connects k))

@@ -6,13 +6,13 @@ use Rattle.core_events.specs.declared.note.CutReason.{CutReason}
 use Rattle.core_events.specs.declared.note.CutReason.TheVariants.{ClientReset, ServerReset, Idle}
 use Rattle.core_events.specs.declared.note.Note.{Note}
 use Rattle.conn_trace.specs.Further.{Coming, nothing_comes, choosing, longer, first_cut, on_last}
-use Rattle.conn_trace.specs.Gates.{TakenCounts, taken_of}
+use Rattle.conn_trace.specs.Gates.{Counts, TakenCounts, taken_of}
 use Rattle.core_events.specs.declared.event_kind.EventKind.{EventKind}
 use Rattle.core_events.specs.declared.event_kind.EventKind.TheVariants.{Comes, Runs}
 use Rattle.core_events.specs.declared.input.Input.{Input}
 use Rattle.core_events.specs.declared.input.Input.TheVariants.{Bytes, Ends, Resets, Connects, Takes}
 use Rattle.conn_trace.specs.Heard.{SideHeard, Heard, taken, taken_by, servers_taken, has_made}
-use Rattle.conn_trace.specs.Heard.{hears_by, hears_more, at_last, brought_nothing, event_brings}
+use Rattle.conn_trace.specs.Heard.{hears_by, hears_more, at_last, unless_late, brought_nothing, event_brings}
 use Rattle.conn_trace.specs.Heard.{brought, hear_brought, marks, event_marks, hears_event, hears}
 use Rattle.conn_trace.specs.Heard.{start_of}
 use Rattle.conn_trace.specs.HeardLaws.{cut_for, cut_in, TellsNothing}
@@ -22,20 +22,20 @@ use Rattle.conn_trace.specs.State.{Cut, TraceState, link_of}
 use Rattle.conn_trace.specs.Tellings.{notes_about, cut_told, finish_told}
 use Rattle.conn_trace.specs.Trace.{Unfolds}
 use Rattle.conn_trace.proofs.Streams.{nothing_on_last}
-use Rattle.conn_trace.proofs.Telling.{run_tells}
 use Rattle.conn.specs.RunsItems.{CutAtRest, Passes}
+use Rattle.conn.specs.Servers.{run_notes}
 use Rattle.proxy_core.specs.Scheduler.{last_took}
-use Rattle.proxy_core.specs.Servers.{links_in, OwnItems, made, last_reset, licenses, awaits, Linked}
+use Rattle.proxy_core.specs.Servers.{made, last_reset, licenses}
 use Rattle.proxy_core.proofs.CameAt.{UncutOr}
 use Rattle.proxy_core.proofs.Hearing.{SidesStay, run_stays}
-use Rattle.proxy_core.proofs.Linking.{longer_linked, none_waits, run_linked}
 use Rattle.proxy_core.proofs.Meeting.{made_last}
 use Rattle.proxy_core.proofs.Members.{eq_self}
 use Rattle.proxy_core.proofs.ServerCounts.{taken_last}
-use Rattle.proxy_core.proofs.ServerLaws.{low, own_front, made_along, unserved, unserved_longer}
-use Rattle.proxy_core.proofs.ServerLeft.{all_made, unserved_at}
+use Rattle.proxy_core.proofs.ServerLaws.{made_along, ordered, ordered_longer}
+use Rattle.proxy_core.proofs.ServerLeft.{all_made, ordered_at}
+use Rattle.proxy_core.proofs.ServerQueues.{Waits, none_wait, up_calm, waits_along, waits_longer}
+use Rattle.proxy_core.proofs.RunNotes.{run_notes_tell}
 use Rattle.proxy_core.proofs.ServerGone.{never}
-use Rattle.proxy_core.proofs.ServerSteps.{rest_side}
 use Rattle.std.proofs.lemmas.Bool.{and_parts}
 use Rattle.conn_trace.specs.Places.{is_up}
 
@@ -85,14 +85,18 @@ reset_last f keeps (Some s ∷ more) e = ap (λ b. if b then last_reset (at_last
     by_made true e rest = rest e
     by_made false e rest = keeps s e
 
+reset_unless : (late : Bool) (f : SideHeard → SideHeard) → ((s : SideHeard) → s.reset ≡ true → (f s).reset ≡ true) → (cs : List (Option SideHeard)) → last_reset cs ≡ true → last_reset (unless_late late f cs) ≡ true
+reset_unless true f keeps cs e = e
+reset_unless false f keeps cs e = reset_last f keeps cs e
+
 marks_more : (input : Input) (h : Heard) → AllowsMore h (marks input h)
 marks_more (Bytes side bytes) h = record { client = λ e. e; server = λ e. e }
 marks_more (Ends side) h = record { client = λ e. e; server = λ e. e }
 marks_more (Resets Client) h = record { client = λ e. refl; server = λ e. e }
-marks_more (Resets Server) h = record { client = λ e. e; server = λ e. reset_last (λ s. record s { reset = true }) (λ s x. refl) h.connects e }
+marks_more (Resets Server) h = record { client = λ e. e; server = λ e. reset_unless h.late (λ s. record s { reset = true }) (λ s x. refl) h.connects e }
 marks_more (Connects made) h = record { client = λ e. e; server = λ e. e }
 marks_more (Takes Client n) h = record { client = λ e. e; server = λ e. e }
-marks_more (Takes Server n) h = record { client = λ e. e; server = λ e. reset_last (λ s. record s { took = s.took + n }) (λ s x. x) h.connects e }
+marks_more (Takes Server n) h = record { client = λ e. e; server = λ e. reset_unless h.late (λ s. record s { took = s.took + n }) (λ s x. x) h.connects e }
 
 heard_reset : (c : Coming) (s : SideHeard) → s.reset ≡ true → (hears_more c s).reset ≡ true
 heard_reset c s e = by_end s.ended
@@ -150,32 +154,28 @@ reset_by true n e = refl
 reset_by false n e = never e
 
 -- what licenses a cut at a rest was heard
-rest_licensed : (g : Setup) (c : ℕ) (h : Heard) (place more : List Item) (l : TraceState) (e : Edges) (r : CutReason) → OwnItems g place → OwnItems g more → Unfolds g (start_of g h) place l → Linked l.finished l e.server.state → CutAtRest g (taken h) l more r → licenses h r ≡ true
-rest_licensed g c h place more l e ClientReset own later u lk k = reset_by h.client.reset h.client.took k.licensed
-rest_licensed g c h place more l e ServerReset own later u lk k =
+rest_licensed : (g : Setup) (h : Heard) (place more : List Item) (l : TraceState) (r : CutReason) → Unfolds g (start_of g h) place l → Waits l → CutAtRest g (taken h) l more r → licenses h r ≡ true
+rest_licensed g h place more l ClientReset u w k = reset_by h.client.reset h.client.took k.licensed
+rest_licensed g h place more l ServerReset u w k =
     let f = choosing (choices_in k.first) None in
     let l' = longer f l in
-    let un = unserved_longer f l (unserved_at g h place l own u) in
-    let front : OwnItems g k.first = own_front g k.first _ (λ x. ap links_in (sym k.split) ∙ later x) in
-    let there = unserved g l' k.mid k.first front un k.passed in
-    let linked = run_linked g l' k.mid k.first c e front un (longer_linked l.finished f l e.server.state refl lk) k.passed in
+    let un = ordered_longer f l (ordered_at g h place l u) in
+    let there = ordered g l' k.mid k.first un k.passed in
     let same : l'.answers.connects ≡ l.answers.connects = append-nil (on_last nothing_comes l.answers.connects) ∙ nothing_on_last nothing_comes l.answers.connects refl in
-    let count : made l.answers.connects + l.sent.number ≡ made k.mid.answers.connects + k.mid.sent.number = ap (λ cs. made cs + l.sent.number) (sym same) ∙ made_along g l' k.mid k.first front un k.passed in
-    let none : k.mid.answers.connects ≡ [] = by_waits k.mid (awaits k.mid.phase) refl (rest_side g k.mid (taken h) (low g.http k.mid there) there.orderly there.not_up k.rests) (none_waits k.mid.finished k.mid _ linked.linked) in
-    let number : made h.connects ≡ k.mid.sent.number = all_made g h place l own u ∙ count ∙ ap (λ cs. made cs + k.mid.sent.number) none ∙ zero-add k.mid.sent.number in
+    let count : made l.answers.connects + l.sent.number ≡ made k.mid.answers.connects + k.mid.sent.number = ap (λ cs. made cs + l.sent.number) (sym same) ∙ made_along g l' k.mid k.first un k.passed in
+    let waits = waits_along g l' k.mid k.first un (waits_longer f l same w) k.passed in
+    let up = (and_parts (is_up (link_of k.mid.server)) _ k.licensed).0 in
+    let none : k.mid.answers.connects ≡ [] = none_wait k.mid waits (up_calm k.mid there up) in
+    let number : made h.connects ≡ k.mid.sent.number = all_made g h place l u ∙ count ∙ ap (λ cs. made cs + k.mid.sent.number) none ∙ zero-add k.mid.sent.number in
     reset_by (last_reset h.connects) (last_took h.connects) (ap is_none (sym (ap (taken_of (servers_taken h.connects)) (sym number) ∙ taken_last h.connects)) ∙ (and_parts (is_up (link_of k.mid.server)) _ k.licensed).1)
-  where
-    by_waits : (mid : TraceState) (b : Bool) → awaits mid.phase ≡ b → (awaits mid.phase ≡ true → mid.answers.connects ≡ []) → (awaits mid.phase ≡ false → mid.answers.connects ≡ []) → mid.answers.connects ≡ []
-    by_waits mid true e there gone = there e
-    by_waits mid false e there gone = gone e
-rest_licensed g c h place more l e Idle own later u lk k = k.licensed
+rest_licensed g h place more l Idle u w k = k.licensed
 
-pub run_licensed : (g : Setup) (c : ℕ) (h : Heard) (place more : List Item) (behind : List Note) (l at : TraceState) (e : Edges) → OwnItems g place → OwnItems g more → Unfolds g (start_of g h) place l → Linked l.finished l e.server.state → TellsNothing c behind → Passes g (taken h) l more at → Licensed h
-    → Licensed (hears c h Runs (notes_of c more ++ behind))
-run_licensed g c h place more behind l at e own later u lk quiet p k = λ cut is. still_licensed h h' cut.reason (record { client = λ x. ap (λ s. s.reset) stays.client ∙ x; server = λ x. ap last_reset stays.connects ∙ x }) (by_cut h.cut refl cut is)
+pub run_licensed : (g : Setup) (c : ℕ) (h : Heard) (place more : List Item) (sent : Counts) (took : TakenCounts) (behind : List Note) (l at : TraceState) → Unfolds g (start_of g h) place l → Waits l → TellsNothing c behind → Passes g (taken h) l more at → Licensed h
+    → Licensed (hears c h Runs (run_notes c sent took more ++ behind))
+run_licensed g c h place more sent took behind l at u w quiet p k = λ cut is. still_licensed h h' cut.reason (record { client = λ x. ap (λ s. s.reset) stays.client ∙ x; server = λ x. ap last_reset stays.connects ∙ x }) (by_cut h.cut refl cut is)
   where
     group : List Note
-    group = notes_of c more ++ behind
+    group = run_notes c sent took more ++ behind
 
     h' : Heard
     h' = hears c h Runs group
@@ -184,11 +184,11 @@ run_licensed g c h place more behind l at e own later u lk quiet p k = λ cut is
     stays = run_stays c h group
 
     told : cut_told (taken h') (notes_about c group) ≡ cut_in (taken h) more
-    told = ap (λ t. cut_told t (notes_about c group)) stays.taken ∙ (run_tells c more behind).cut (taken h) (quiet.cut (taken h))
+    told = ap (λ t. cut_told t (notes_about c group)) stays.taken ∙ (run_notes_tell c sent took more behind).cut (taken h) (quiet.cut (taken h))
 
     by_cut : (o : Option Cut) → h.cut ≡ o → (cut : Cut) → first_cut h.cut (cut_told (taken h') (notes_about c group)) ≡ Some cut → licenses h cut.reason ≡ true
     by_cut (Some first) e0 cut is = k cut (e0 ∙ (sym (ap (λ o. first_cut o (cut_told (taken h') (notes_about c group))) e0) ∙ is))
     by_cut None e0 cut is =
         let given : cut_in (taken h) more ≡ Some cut = sym told ∙ sym (ap (λ o. first_cut o (cut_told (taken h') (notes_about c group))) e0) ∙ is in
         let counts = cut_took (taken h) more cut given in
-        rest_licensed g c h place more l e cut.reason own later u lk (p.cut cut.reason (given ∙ ap (λ t. Some (record { reason = cut.reason; took = t })) counts))
+        rest_licensed g h place more l cut.reason u w (p.cut cut.reason (given ∙ ap (λ t. Some (record { reason = cut.reason; took = t })) counts))

@@ -9,7 +9,7 @@ use Rattle.core_events.specs.declared.event_kind.EventKind.TheVariants.{Comes}
 use Rattle.core_events.specs.declared.input.Input.{Input}
 use Rattle.core_events.specs.declared.input.Input.TheVariants.{Bytes, Ends, Resets, Connects, Takes}
 use Rattle.conn_trace.specs.Heard.{SideHeard, fresh_side, Heard, taken_by, side_taken}
-use Rattle.conn_trace.specs.Heard.{servers_taken, taken, hears_by, hears_more, has_made, at_last}
+use Rattle.conn_trace.specs.Heard.{servers_taken, taken, hears_by, hears_more, has_made, at_last, unless_late}
 use Rattle.conn_trace.specs.Heard.{answer, as_answer, Brought, brought_nothing, brings_in}
 use Rattle.conn_trace.specs.Heard.{event_brings, marks, event_marks, brought, hears_event, hears}
 use Rattle.conn_trace.specs.Heard.{further_of}
@@ -157,7 +157,7 @@ hears_took c s = by_end s.ended
     by_end true = refl
     by_end false = refl
 
-abbrev heard_connects : Brought → Heard → List (Option SideHeard)
+abbrev pub heard_connects : Brought → Heard → List (Option SideHeard)
 heard_connects b h = at_last (hears_more b.server) h.connects ++ b.connects
 
 -- what is brought, beside answers, changes nothing of it
@@ -192,10 +192,24 @@ around_answered made h = by_made made
     by_made true = all (servers_taken h.connects ++ Some 0 ∷ []) 0 (Some fresh_side) (taken_answered cs ∙ ap (λ x. x ++ Some 0 ∷ []) (taken_keeps (hears_more nothing_comes) (hears_taken nothing_comes) h.connects)) (took_answered cs)
     by_made false = all (servers_taken h.connects) (last_took h.connects) None (taken_refused cs ∙ taken_keeps (hears_more nothing_comes) (hears_taken nothing_comes) h.connects) (took_refused cs ∙ last_keeps (hears_more nothing_comes) (hears_took nothing_comes) h.connects)
 
--- what a server takes is taken by one that was made
+-- what a server takes is taken by one that was made, and was heard of
 abbrev pub TakesThere : Input → Heard → Type 0
-TakesThere (Takes Server n) h = has_made h.connects ≡ false → n ≡ 0
+TakesThere (Takes Server n) h = (has_made h.connects ≡ false → n ≡ 0) × (h.late ≡ true → n ≡ 0)
 TakesThere other h = Unit {0}
+
+-- a reset of a server connection that was made behind the finish isn't of the one before
+abbrev pub met_at : (late : Bool) → Input → (finished : Bool) → Around → Around
+met_at late (Resets Server) finished a = if late then a else met_by (Resets Server) finished a
+met_at late other finished a = met_by other finished a
+
+none_more_at_last : (ts : List (Option ℕ)) → more_at_last 0 ts ≡ ts
+none_more_at_last [] = refl
+none_more_at_last (t ∷ []) = ap (λ x. x ∷ []) (by_taken t)
+  where
+    by_taken : (t : Option ℕ) → option_map (λ k. k + 0) t ≡ t
+    by_taken None = refl
+    by_taken (Some k) = ap Some (let e : k + 0 ≡ k = omega arith in e)
+none_more_at_last (t ∷ (u ∷ more)) = ap (λ x. t ∷ x) (none_more_at_last (u ∷ more))
 
 counted_more : (b : Bool) (k n : ℕ) → taken_by b (k + n) ≡ option_map (λ x. x + n) (taken_by b k)
 counted_more true k n = refl
@@ -208,59 +222,75 @@ abbrev took_side : ℕ → SideHeard → SideHeard
 took_side n s = record s { took = s.took + n }
 
 -- a reset and a took-count
-around_marked : (input : Input) (h : Heard) → TakesThere input h → around (marks input h) ≡ met_by input true (around h)
+around_marked : (input : Input) (h : Heard) → TakesThere input h → around (marks input h) ≡ met_at h.late input true (around h)
 around_marked (Bytes side bytes) h t = refl
 around_marked (Ends side) h t = refl
 around_marked (Connects made) h t = refl
 around_marked (Resets Client) h t = refl
-around_marked (Resets Server) h t =
-    ap (λ x. told_by (side_taken h.client) x h.client.took (last_took (at_last reset_side h.connects))) (taken_last reset_side (λ t. None) none_at_last (λ s. refl) refl (λ t. refl) (λ t u more. refl) h.connects)
-    ∙ ap (λ x. told_by (side_taken h.client) (none_at_last (servers_taken h.connects)) h.client.took x) (last_keeps reset_side (λ s. refl) h.connects)
-around_marked (Takes Client n) h t = ap (λ x. told_by x (servers_taken h.connects) (h.client.took + n) (last_took h.connects)) (counted_more h.client.reset h.client.took n)
-around_marked (Takes Server n) h t =
-    ap (λ x. told_by (side_taken h.client) x h.client.took (last_took (at_last (took_side n) h.connects))) (taken_last (took_side n) (option_map (λ k. k + n)) (more_at_last n) (λ s. counted_more s.reset s.took n) refl (λ t. refl) (λ t u more. refl) h.connects)
-    ∙ ap (λ x. told_by (side_taken h.client) (more_at_last n (servers_taken h.connects)) h.client.took x) (server_took n h t)
+around_marked (Resets Server) h t = by_late h.late
   where
-    server_took : (n : ℕ) (h : Heard) → (has_made h.connects ≡ false → n ≡ 0) → last_took (at_last (took_side n) h.connects) ≡ last_took h.connects + n
-    server_took n h t = by_made (has_made h.connects) refl
+    by_late : (b : Bool) → told_by (side_taken h.client) (servers_taken (unless_late b reset_side h.connects)) h.client.took (last_took (unless_late b reset_side h.connects)) ≡ met_at b (Resets Server) true (around h)
+    by_late true = refl
+    by_late false =
+        ap (λ x. told_by (side_taken h.client) x h.client.took (last_took (at_last reset_side h.connects))) (taken_last reset_side (λ t. None) none_at_last (λ s. refl) refl (λ t. refl) (λ t u more. refl) h.connects)
+        ∙ ap (λ x. told_by (side_taken h.client) (none_at_last (servers_taken h.connects)) h.client.took x) (last_keeps reset_side (λ s. refl) h.connects)
+around_marked (Takes Client n) h t = ap (λ x. told_by x (servers_taken h.connects) (h.client.took + n) (last_took h.connects)) (counted_more h.client.reset h.client.took n)
+around_marked (Takes Server n) h t = by_late h.late refl
+  where
+    server_took : last_took (at_last (took_side n) h.connects) ≡ last_took h.connects + n
+    server_took = by_made (has_made h.connects) refl
       where
         by_made : (b : Bool) → has_made h.connects ≡ b → last_took (at_last (took_side n) h.connects) ≡ last_took h.connects + n
         by_made true e = last_more (took_side n) n (λ s. refl) h.connects e
-        by_made false e = let z = t e in let u = unmade (took_side n) h.connects e in let v = none_took h.connects e in omega (arith, z, u, v)
+        by_made false e = let z = t.0 e in let u = unmade (took_side n) h.connects e in let v = none_took h.connects e in omega (arith, z, u, v)
+
+    nothing : n ≡ 0 → around h ≡ told_by (side_taken h.client) (more_at_last n (servers_taken h.connects)) h.client.took (last_took h.connects + n)
+    nothing z =
+        ap (λ x. told_by (side_taken h.client) x h.client.took (last_took h.connects)) (sym (ap (λ k. more_at_last k (servers_taken h.connects)) z ∙ none_more_at_last (servers_taken h.connects)))
+        ∙ ap (told_by (side_taken h.client) (more_at_last n (servers_taken h.connects)) h.client.took) (let k : last_took h.connects ≡ last_took h.connects + n = omega (arith, z) in k)
+
+    by_late : (b : Bool) → h.late ≡ b
+        → told_by (side_taken h.client) (servers_taken (unless_late b (took_side n) h.connects)) h.client.took (last_took (unless_late b (took_side n) h.connects))
+        ≡ told_by (side_taken h.client) (more_at_last n (servers_taken h.connects)) h.client.took (last_took h.connects + n)
+    by_late true e = nothing (t.1 e)
+    by_late false e =
+        ap (λ x. told_by (side_taken h.client) x h.client.took (last_took (at_last (took_side n) h.connects))) (taken_last (took_side n) (option_map (λ k. k + n)) (more_at_last n) (λ s. counted_more s.reset s.took n) refl (λ t. refl) (λ t u more. refl) h.connects)
+        ∙ ap (λ x. told_by (side_taken h.client) (more_at_last n (servers_taken h.connects)) h.client.took x) server_took
 
 or_false : (b : Bool) → (b || false) ≡ b
 or_false true = refl
 or_false false = refl
 
 -- what it brings, where its notes don't finish it
-brought_is : (c : ℕ) (h : Heard) (input : Input) (group : List Note) → finish_told (notes_about c group) ≡ false → brought c h (Comes c input) group ≡ (if h.finished then brought_nothing else brings_in input)
+pub brought_is : (c : ℕ) (h : Heard) (input : Input) (group : List Note) → finish_told (notes_about c group) ≡ false → brought c h (Comes c input) group ≡ (if h.finished then brought_nothing else brings_in input)
 brought_is c h input group none =
     ap (λ b. if h.finished || b then brought_nothing else event_brings c (Comes c input)) none ∙ ap (λ b. if b then brought_nothing else event_brings c (Comes c input)) (or_false h.finished)
     ∙ ap (λ b. if h.finished then brought_nothing else (if b then brings_in input else brought_nothing)) (eq_self c)
 
-marked_is : (c : ℕ) (h : Heard) (input : Input) → event_marks c (Comes c input) h ≡ marks input h
+pub marked_is : (c : ℕ) (h : Heard) (input : Input) → event_marks c (Comes c input) h ≡ marks input h
 marked_is c h input = ap (λ b. if b then marks input h else h) (eq_self c)
 
 abbrev around_after : Brought → Heard → Around
 around_after b h = told_by (side_taken (hears_more b.client h.client)) (servers_taken (heard_connects b h)) (hears_more b.client h.client).took (last_took (heard_connects b h))
 
-pub around_met : (c : ℕ) (h : Heard) (input : Input) (group : List Note) → finish_told (notes_about c group) ≡ false → TakesThere input h → around (hears c h (Comes c input) group) ≡ met_by input h.finished (around h)
+pub around_met : (c : ℕ) (h : Heard) (input : Input) (group : List Note) → finish_told (notes_about c group) ≡ false → TakesThere input h → around (hears c h (Comes c input) group) ≡ met_at h.late input h.finished (around h)
 around_met c h input group none there =
     ap (λ b. around_after b (event_marks c (Comes c input) h)) (brought_is c h input group none) ∙ ap (around_after (if h.finished then brought_nothing else brings_in input)) (marked_is c h input)
     ∙ by_finish h.finished input there
   where
-    by_finish : (b : Bool) (i : Input) → TakesThere i h → around_after (if b then brought_nothing else brings_in i) (marks i h) ≡ met_by i b (around h)
+    by_finish : (b : Bool) (i : Input) → TakesThere i h → around_after (if b then brought_nothing else brings_in i) (marks i h) ≡ met_at h.late i b (around h)
     by_finish true i t = around_brought brought_nothing (marks i h) refl ∙ around_marked i h t
     by_finish false (Bytes Client bytes) t = around_brought (brings_in (Bytes Client bytes)) h refl
     by_finish false (Bytes Server bytes) t = around_brought (brings_in (Bytes Server bytes)) h refl
     by_finish false (Ends Client) t = around_brought (brings_in (Ends Client)) h refl
     by_finish false (Ends Server) t = around_brought (brings_in (Ends Server)) h refl
-    by_finish false (Resets side) t = around_brought brought_nothing (marks (Resets side) h) refl ∙ around_marked (Resets side) h t
+    by_finish false (Resets Client) t = around_brought brought_nothing (marks (Resets Client) h) refl ∙ around_marked (Resets Client) h t
+    by_finish false (Resets Server) t = around_brought brought_nothing (marks (Resets Server) h) refl ∙ around_marked (Resets Server) h t
     by_finish false (Takes side n) t = around_brought brought_nothing (marks (Takes side n) h) refl ∙ around_marked (Takes side n) h t
     by_finish false (Connects made) t = around_answered made h
 
 -- where they finish it nothing is brought
-pub around_last : (c : ℕ) (h : Heard) (input : Input) (group : List Note) → finish_told (notes_about c group) ≡ true → TakesThere input h → around (hears c h (Comes c input) group) ≡ met_by input true (around h)
+pub around_last : (c : ℕ) (h : Heard) (input : Input) (group : List Note) → finish_told (notes_about c group) ≡ true → TakesThere input h → around (hears c h (Comes c input) group) ≡ met_at h.late input true (around h)
 around_last c h input group last there =
     let is : brought c h (Comes c input) group ≡ brought_nothing = ap (λ b. if h.finished || b then brought_nothing else event_brings c (Comes c input)) last ∙ by_true h.finished in
     ap (λ b. around_after b (event_marks c (Comes c input) h)) is ∙ ap (around_after brought_nothing) (marked_is c h input) ∙ around_brought brought_nothing (marks input h) refl ∙ around_marked input h there
@@ -341,46 +371,31 @@ come_told c h input group =
 -- ---- what waits for the sides
 
 -- how many bytes more a side took by it
-abbrev took_client : Input → ℕ
+abbrev pub took_client : Input → ℕ
 took_client (Takes Client n) = n
 took_client other = 0
 
-abbrev took_server : Input → ℕ
+abbrev pub took_server : Input → ℕ
 took_server (Takes Server n) = n
 took_server other = 0
 
-client_counted : (i : Input) (finished : Bool) (a : Around) → (met_by i finished a).counted ≡ a.counted + took_client i
-client_counted (Bytes side bytes) f a = omega arith
-client_counted (Ends side) f a = omega arith
-client_counted (Resets Client) f a = omega arith
-client_counted (Resets Server) f a = omega arith
-client_counted (Takes Client n) f a = refl
-client_counted (Takes Server n) f a = omega arith
-client_counted (Connects made) true a = omega arith
-client_counted (Connects true) false a = omega arith
-client_counted (Connects false) false a = omega arith
+pub client_counted : (late : Bool) (i : Input) (finished : Bool) (a : Around) → (met_at late i finished a).counted ≡ a.counted + took_client i
+client_counted late (Bytes side bytes) f a = omega arith
+client_counted late (Ends side) f a = omega arith
+client_counted late (Resets Client) f a = omega arith
+client_counted true (Resets Server) f a = omega arith
+client_counted false (Resets Server) f a = omega arith
+client_counted late (Takes Client n) f a = refl
+client_counted late (Takes Server n) f a = omega arith
+client_counted late (Connects made) true a = omega arith
+client_counted late (Connects true) false a = omega arith
+client_counted late (Connects false) false a = omega arith
 
-heard_queued : (b : Bool) (c : Coming) (e : End) → (heard_by b c e).queued ≡ e.queued
+pub heard_queued : (b : Bool) (c : Coming) (e : End) → (heard_by b c e).queued ≡ e.queued
 heard_queued true c e = refl
 heard_queued false c e = refl
 
--- an answer comes where none was made before
-abbrev pub AnswersFirst : Input → Around → Type 0
-AnswersFirst (Connects made) a = a.counted_server ≡ 0
-AnswersFirst other a = Unit {0}
-
-server_counted : (i : Input) (finished : Bool) (a : Around) → AnswersFirst i a → (met_by i finished a).counted_server ≡ a.counted_server + took_server i
-server_counted (Bytes side bytes) f a z = omega arith
-server_counted (Ends side) f a z = omega arith
-server_counted (Resets Client) f a z = omega arith
-server_counted (Resets Server) f a z = omega arith
-server_counted (Takes Client n) f a z = omega arith
-server_counted (Takes Server n) f a z = refl
-server_counted (Connects made) true a z = omega arith
-server_counted (Connects true) false a z = omega (arith, z)
-server_counted (Connects false) false a z = omega arith
-
-client_queued : (i : Input) (finished : Bool) (e : BothEnds) → (ends_met i finished e).client.queued ≡ drop (took_client i) e.client.queued
+pub client_queued : (i : Input) (finished : Bool) (e : BothEnds) → (ends_met i finished e).client.queued ≡ drop (took_client i) e.client.queued
 client_queued (Bytes Client bytes) true e = refl
 client_queued (Bytes Client bytes) false e = heard_queued e.client.ended _ e.client
 client_queued (Bytes Server bytes) true e = refl
@@ -403,7 +418,7 @@ client_queued (Takes Client n) f e = refl
 client_queued (Takes Server n) f e = refl
 client_queued (Connects made) f e = refl
 
-server_queued : (i : Input) (finished : Bool) (e : BothEnds) → (ends_met i finished e).server.queued ≡ drop (took_server i) e.server.queued
+pub server_queued : (i : Input) (finished : Bool) (e : BothEnds) → (ends_met i finished e).server.queued ≡ drop (took_server i) e.server.queued
 server_queued (Bytes Client bytes) true e = refl
 server_queued (Bytes Client bytes) false e = refl
 server_queued (Bytes Server bytes) true e = refl
@@ -430,7 +445,7 @@ server_queued (Takes Client n) f e = refl
 server_queued (Takes Server n) f e = refl
 server_queued (Connects made) f e = refl
 
-ends_lost : (i : Input) (finished : Bool) (e : BothEnds) → (ends_met i finished e).lost ≡ e.lost
+pub ends_lost : (i : Input) (finished : Bool) (e : BothEnds) → (ends_met i finished e).lost ≡ e.lost
 ends_lost (Bytes Client bytes) true e = refl
 ends_lost (Bytes Client bytes) false e = refl
 ends_lost (Bytes Server bytes) true e = refl
@@ -452,15 +467,6 @@ ends_lost (Resets Server) f e = refl
 ends_lost (Takes Client n) f e = refl
 ends_lost (Takes Server n) f e = refl
 ends_lost (Connects made) f e = refl
-
-pub queues_met : (h h' : Heard) (i : Input) (finished : Bool) (place : List Item) (e : BothEnds) → around h' ≡ met_by i finished (around h) → AnswersFirst i (around h) → HoldsQueues h place e → HoldsQueues h' place (ends_met i finished e)
-queues_met h h' i f place e is first q = record {
-  client = client_queued i f e ∙ ap (drop (took_client i)) q.client ∙ drop-drop (took_client i) h.client.took (client_output place)
-      ∙ ap (λ n. drop n (client_output place)) (sym (ap (λ x. x.counted) is ∙ client_counted i f (around h)));
-  server = server_queued i f e ∙ ap (drop (took_server i)) q.server ∙ drop-drop (took_server i) (last_took h.connects) (server_output 1 place)
-      ∙ ap (λ n. drop n (server_output 1 place)) (sym (ap (λ x. x.counted_server) is ∙ server_counted i f (around h) first));
-  lost = ends_lost i f e ∙ q.lost;
-}
 
 -- an event that neither brings nor marks anything leaves what was told
 pub around_quiet : (c : ℕ) (h : Heard) (v : EventKind) (group : List Note) → event_marks c v h ≡ h → event_brings c v ≡ brought_nothing → around (hears c h v group) ≡ around h

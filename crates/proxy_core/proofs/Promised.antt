@@ -1,5 +1,5 @@
 -- Parts of the promise, of a connection of which `Served` holds.
-use Rattle.std.proofs.Common.{◌≡◌, refl, sym, ap, subst, ◌∙◌, ℕ, ◌+◌, ◌≤◌, List, [], ◌∷◌, ◌++◌, length, take, map, Bool, true, false, ◌&&◌, not, nat_eq, arith, eqb-true, append-nil, if◌then◌else◌, is_none, zero-add, ◌-◌}
+use Rattle.std.proofs.Common.{◌≡◌, refl, sym, ap, subst, ◌∙◌, ℕ, ◌+◌, ◌≤◌, List, [], ◌∷◌, ◌++◌, length, take, map, Bool, true, false, ◌&&◌, ◌||◌, true≢false, not, nat_eq, arith, eqb-true, append-nil, if◌then◌else◌, is_none, zero-add, ◌-◌}
 use Rattle.std.proofs.lemmas.Bool.{and_parts}
 use Rattle.std.proofs.lemmas.List.{take-append-le}
 use Rattle.std.proofs.lemmas.Grind.{flat_map-append}
@@ -28,7 +28,7 @@ use Rattle.conn_trace.specs.Tellings.{failure_told, notes_about}
 use Rattle.core_events.specs.declared.note.Note.TheVariants.{HalfClose}
 use Rattle.core_events.specs.declared.note.CutReason.{CutReason}
 use Rattle.core_events.specs.declared.note.CutReason.TheVariants.{ClientReset, ServerReset, Idle}
-use Rattle.conn.specs.RunsItems.{is_cut, licenses}
+use Rattle.conn.specs.RunsItems.{cut_due, is_cut, licenses}
 use Rattle.conn.specs.Settling.{half_close, is_drained, is_over, note_if, settling_at}
 use Rattle.proxy_core.specs.Calls.{calls_of}
 use Rattle.proxy_core.specs.Headline.{first_items, SentIsPrefix, IsSettled, EntriesAreCalls}
@@ -223,25 +223,20 @@ client_took_all C c z k e n kept =
 
 -- ---- at rest no cut is due
 
--- for this reason none goes on, where it is no licence there
-no_cut_by : (finished licensed takes : Bool) → (finished ≡ false → licensed ≡ false) → (finished ≡ false → licensed ≡ true) → (not finished && takes) ≡ false
-no_cut_by true licensed takes none e = refl
-no_cut_by false licensed takes none e = let f : true ≡ false = sym (e refl) ∙ none refl in cc
+-- what is licensed there isn't taken
+none_taken : (licensed taken : Bool) → (licensed && taken) ≡ false → licensed ≡ true → taken ≡ false
+none_taken true taken none e = none
+none_taken false taken none e = absurd (true≢false (sym e))
 
-neither : (finished a b : Bool) → (if finished then false else (if a then true else b)) ≡ false → finished ≡ false → (a ≡ false) × (b ≡ false)
-neither true a b e f = cc
-neither false true b e f = cc
-neither false false b e f = (refl, e)
+neither : (a b : Bool) → (a || b) ≡ false → (a ≡ false) × (b ≡ false)
+neither true b e = absurd (true≢false e)
+neither false b e = (refl, e)
 
-pub rest_not_cut : (g : Setup) (took : TakenCounts) (l : TraceState) → is_cut took l ≡ false → (reason : CutReason) → (l.finished ≡ false → licenses reason l took ≡ true)
+pub rest_not_cut : (g : Setup) (took : TakenCounts) (l : TraceState) → is_cut g took l ≡ false → (reason : CutReason) → licenses reason l took ≡ true
     → cut_is_taken g (record { reason = reason; took = took }) l ≡ false
-rest_not_cut g took l none ClientReset e =
-    no_cut_by l.finished (licenses ClientReset l took) (takes_cut g (record { reason = ClientReset; took = took }) l.sent (next_item g l))
-    (λ f. (neither l.finished (licenses ClientReset l took) (licenses ServerReset l took) none f).0) e
-rest_not_cut g took l none ServerReset e =
-    no_cut_by l.finished (licenses ServerReset l took) (takes_cut g (record { reason = ServerReset; took = took }) l.sent (next_item g l))
-    (λ f. (neither l.finished (licenses ClientReset l took) (licenses ServerReset l took) none f).1) e
-rest_not_cut g took l none Idle e = no_cut_by l.finished false (takes_cut g (record { reason = Idle; took = took }) l.sent (next_item g l)) (λ f. refl) e
+rest_not_cut g took l none ClientReset e = none_taken (licenses ClientReset l took) (cut_is_taken g (record { reason = ClientReset; took = took }) l) (neither (cut_due g ClientReset took l) (cut_due g ServerReset took l) none).0 e
+rest_not_cut g took l none ServerReset e = none_taken (licenses ServerReset l took) (cut_is_taken g (record { reason = ServerReset; took = took }) l) (neither (cut_due g ClientReset took l) (cut_due g ServerReset took l) none).1 e
+rest_not_cut g took l none Idle e = absurd (true≢false (sym e))
 
 -- a reset of the client is a licence there
 pub client_license : (h : Heard) (at : TraceState) → h.client.reset ≡ true → licenses ClientReset at (taken h) ≡ true

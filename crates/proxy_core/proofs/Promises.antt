@@ -1,10 +1,10 @@
 -- The promise, of every past that leads to a state, from what holds of it.
-use Rattle.std.proofs.Common.{◌≡◌, refl, sym, subst, ◌∙◌, ℕ, ◌+◌, ◌-◌, ◌≤◌, List, length, true, false, arith, suc, ◌<◌, nat_lt, ap, Bool}
+use Rattle.std.proofs.Common.{◌≡◌, refl, sym, true≢false, subst, ◌∙◌, ℕ, ◌+◌, ◌-◌, ◌≤◌, List, length, true, false, arith, suc, ◌<◌, nat_lt, ap, Bool}
 use Rattle.conn_trace.specs.Gates.{Counts, no_bytes, sent_from}
 use Rattle.conn_trace.specs.Heard.{Heard, taken, start_of}
 use Rattle.conn_trace.specs.Item.{Item, client_output, server_output}
 use Rattle.conn_trace.specs.Setup.{Setup}
-use Rattle.conn_trace.specs.State.{TraceState}
+use Rattle.conn_trace.specs.State.{TraceState, link_of}
 use Rattle.conn_trace.specs.Trace.{next_item, GivesNoMore, Unfolds}
 use Rattle.core_events.specs.declared.note.CutReason.TheVariants.{ClientReset, ServerReset, Idle}
 use Rattle.proxy_core.specs.Headline.{IsSettled, NoCutIsDue, ConnectionPromise, EveryPastMatches, OutputMatchesEvaluator}
@@ -23,7 +23,9 @@ use Rattle.proxy_core.proofs.Standing.{as_served, sent_at}
 use Rattle.proxy_core.specs.Sound.{Sound}
 use Rattle.proxy_core.proofs.AllServers.{left_none}
 use Rattle.proxy_core.proofs.ServerLaws.{none_sent}
-use Rattle.proxy_core.specs.Servers.{OwnItems, made, took_of}
+use Rattle.conn_trace.specs.Places.{is_up}
+use Rattle.proxy_core.specs.Servers.{last_reset, made, took_of}
+use Rattle.std.proofs.lemmas.Bool.{and_parts}
 use Rattle.std.proofs.lemmas.Bool.Decides.{nat_tests}
 
 -- what holds of its server, where it stands
@@ -31,16 +33,18 @@ abbrev ServerFacts : Config → Heard → List Item → Type 0
 ServerFacts C h place = FactsAt (setup_of C h) h place (stand_of C h place)
 
 none_due : (C : Config) (h : Heard) (place : List Item) → ServerFacts C h place → Rested (setup_of C h) (taken h) (stand_of C h place) h.edges → NoCutIsDue C h place
-none_due C h place f r ClientReset e = rest_not_cut (setup_of C h) (taken h) (stand_of C h place) r.no_cut ClientReset (λ going. client_license h (stand_of C h place) e)
-none_due C h place f r ServerReset e = rest_not_cut (setup_of C h) (taken h) (stand_of C h place) r.no_cut ServerReset (λ going. f.license going r.gives_no_more e)
-none_due C h place f r Idle e = cc
+none_due C h place f r ClientReset e = rest_not_cut (setup_of C h) (taken h) (stand_of C h place) r.no_cut ClientReset (client_license h (stand_of C h place) e)
+none_due C h place f r ServerReset e =
+    let parts = and_parts (last_reset h.connects) (is_up (link_of (stand_of C h place).server)) e in
+    rest_not_cut (setup_of C h) (taken h) (stand_of C h place) r.no_cut ServerReset (f.license parts.0 parts.1)
+none_due C h place f r Idle e = absurd (true≢false (sym e))
 
 -- where nothing is dropped each side took all
 client_took : (a t b : ℕ) → t ≤ a → (a - t) + b ≡ 0 → t ≡ a
 client_took a t b x e = omega (arith, x, e)
 
-servers_took : (C : Config) (h : Heard) (place : List Item) (l : TraceState) → OwnItems (setup_of C h) place → Unfolds (setup_of C h) (start_of (setup_of C h) h) place l → TookWithin h place → servers_left 1 h.connects place ≡ 0 → (k : ℕ) → took_of h.connects (suc k) ≡ length (server_output (suc k) place)
-servers_took C h place l own u w none k = by_made (nat_lt k (made h.connects)) refl
+servers_took : (C : Config) (h : Heard) (place : List Item) (l : TraceState) → Unfolds (setup_of C h) (start_of (setup_of C h) h) place l → TookWithin h place → servers_left 1 h.connects place ≡ 0 → (k : ℕ) → took_of h.connects (suc k) ≡ length (server_output (suc k) place)
+servers_took C h place l u w none k = by_made (nat_lt k (made h.connects)) refl
   where
     by_made : (b : Bool) → nat_lt k (made h.connects) ≡ b → took_of h.connects (suc k) ≡ length (server_output (suc k) place)
     by_made true is =
@@ -50,7 +54,7 @@ servers_took C h place l own u w none k = by_made (nat_lt k (made h.connects)) r
     by_made false is =
         let above : made h.connects ≤ k = grind (arith, nat_tests, is) in
         let g = setup_of C h in
-        let number = all_made g h place l own u in
+        let number = all_made g h place l u in
         let out = ap length (none_sent g (start_of g h) l place (suc k) u (omega (arith, number, above))) in
         let most = w.servers (suc k) in omega (arith, out, most)
 
@@ -71,7 +75,7 @@ promised C past s c f k = record {
     ended_clean_sent_all = λ e n none. record {
       no_more = ended_is_whole C c z k e n;
       took_all = client_took (length (client_output z.place)) h.client.took (servers_left 1 h.connects z.place) k.within.client none;
-      servers_took_all = servers_took C h z.place l k.own k.stands k.within (let x : servers_left 1 h.connects z.place ≡ 0 = omega (arith, none) in x);
+      servers_took_all = servers_took C h z.place l k.stands k.within (let x : servers_left 1 h.connects z.place ≡ 0 = omega (arith, none) in x);
     };
   };
   finish_causes = record {
@@ -85,6 +89,7 @@ promised C past s c f k = record {
   };
   closes_rightly = record {
     told = k.ends;
+    closes_given_up = λ going. (let d = k.drains going in omega (arith, d));
     dropped = λ e n kept up. none_dropped (length (client_output z.place)) h.client.took (servers_left 1 h.connects z.place) (client_took_all C c z k e n kept) (f.left (ended_at C c z k e n).1.1 up);
   };
   entries_are_calls = calls_promised past s c C k;

@@ -1,5 +1,5 @@
 -- A connection of the code that runs: what it goes on with, for what was heard then.
-use Rattle.std.proofs.Common.{◌≡◌, ◌⊎◌, inl, inr, refl, sym, ap, subst, ◌∙◌, ℕ, ◌+◌, ◌*◌, ◌-◌, ◌≤◌, ◌<◌, nat_lt, List, [], ◌∷◌, ◌++◌, length, drop, Bool, true, false, ◌||◌, Option, Some, None, nat_eq, if◌then◌else◌, arith, length-append, append-nil}
+use Rattle.std.proofs.Common.{◌≡◌, ◌⊎◌, inl, inr, refl, sym, ap, subst, ◌∙◌, ℕ, suc, ◌+◌, ◌*◌, ◌-◌, ◌≤◌, ◌<◌, nat_lt, List, [], ◌∷◌, ◌++◌, length, drop, Bool, true, false, ◌||◌, Option, Some, None, nat_eq, if◌then◌else◌, arith, length-append, append-nil}
 use Rattle.std.specs.Bool.{MatchBool}
 use Rattle.std.proofs.lemmas.List.{length-drop, drop-append-le}
 use Rattle.std.proofs.lemmas.Bool.Decides.{nat_tests}
@@ -17,17 +17,17 @@ use Rattle.conn_trace.specs.HeardLaws.{TellsNothing, taken_by_items}
 use Rattle.conn_trace.specs.Costs.{paid_by}
 use Rattle.conn_trace.specs.Item.{Item, to_client, to_server, client_output, server_output, notes_of}
 use Rattle.conn_trace.specs.Setup.{Setup}
-use Rattle.conn_trace.specs.State.{TraceState}
+use Rattle.conn_trace.specs.State.{TraceState, link_of}
 use Rattle.conn_trace.specs.Tellings.{notes_about, failure_told}
 use Rattle.conn_trace.specs.Trace.{Unfolds}
 use Rattle.conn_trace.proofs.Costs.{paid_joins}
 use Rattle.conn_trace.proofs.Given.{sent_counted, sent_output}
 use Rattle.conn_trace.proofs.Sending.{sent_to_server}
-use Rattle.conn.specs.Ends.{is_up, number_by, queued_in, has_stream, servers_by}
+use Rattle.conn.specs.Ends.{connects_by, has_stream, queued_in, server_by}
 use Rattle.conn.specs.Holds.{Around, Holds, HoldsEnds}
 use Rattle.conn.specs.Paid.{Paid}
 use Rattle.conn.specs.Runs.{GoesOnWith, IsWhole, StopsWithout}
-use Rattle.conn.specs.RunsItems.{Passes, StopsAt, asks, ends, is_resting, out_of_memory, slices_in, told_behind}
+use Rattle.conn.specs.RunsItems.{Passes, RunsItems, StopsAt, asks, ends, is_resting, out_of_memory, slices_in, told_behind}
 use Rattle.conn.specs.Settling.{closing, resting}
 use Rattle.conn.specs.Setups as conn
 use Rattle.conn.specs.declared.connection.Conn.{Conn}
@@ -43,28 +43,28 @@ use Rattle.proxy_core.specs.Moves.{MovesFront, RunsFailed, RunsOn, RunsOut, ran}
 use Rattle.record_model.specs.Past.{Past, ended_in, heard}
 use Rattle.proxy_core.specs.Ready.{ring_behind}
 use Rattle.proxy_core.specs.Represents.{ConnectionContinues, Continues, HoldsQueues, around}
-use Rattle.proxy_core.specs.Scheduler.{State, last_took, seen, seen_after, untaken_all}
+use Rattle.proxy_core.specs.Scheduler.{State, last_took, servers_left, seen, seen_after, untaken_all}
 use Rattle.record_model.specs.Setup.{setup_of, stand_of}
 use Rattle.run_config.specs.declared.config.Config.{Config}
 use Rattle.conn.proofs.Affording.{affords}
 use Rattle.conn.proofs.Paying.{paid_within}
-use Rattle.proxy_core.proofs.CameOn.{Stood, paid_standing, queued_untaken, to_standing}
+use Rattle.proxy_core.proofs.CameOn.{Stood, stream_is, paid_standing, queued_untaken, to_standing}
 use Rattle.proxy_core.proofs.Entries.{asked_behind, calls_behind_self}
 use Rattle.proxy_core.proofs.GroupNotes.{About, AreDue, about_items, about_joined, closing_due, due_about, due_failure, due_quiet, ended_behind, ended_closing, ended_resting, failure_behind, of_items, resting_due, tells_all}
 use Rattle.proxy_core.proofs.Meeting.{around_quiet}
 use Rattle.proxy_core.proofs.Members.{eq_self}
 use Rattle.proxy_core.proofs.Standing.{sent_at}
-use Rattle.proxy_core.proofs.PlainRuns.{runs_noted, out_notes, out_noted}
-use Rattle.proxy_core.proofs.PlainServers.{Numbered, PlainEnds, none_of_length, numbered, numbered_at, numbered_longer, outputs_same, plain_ends, queue_plain, few_made}
-use Rattle.proxy_core.proofs.ServerLaws.{Unserved, none_sent, unserved, unserved_longer, made_along}
-use Rattle.proxy_core.proofs.ServerLeft.{unserved_at, all_made}
+use Rattle.proxy_core.proofs.Hearing.{run_stays}
+use Rattle.proxy_core.proofs.RunNotes.{about_runs, ended_runs, failure_runs, of_runs}
+use Rattle.proxy_core.proofs.ServerCounts.{took_last}
+use Rattle.proxy_core.proofs.ServerLaws.{Ordered, ordered_longer}
+use Rattle.proxy_core.proofs.ServerLeft.{all_made, ordered_at}
+use Rattle.proxy_core.proofs.ServerQueues.{AllMade, Queued, TookBehind, Waits, left_along, queue_length, queued_along, waits_longer}
+use Rattle.proxy_core.proofs.AllServers.{silent_left}
+use Rattle.proxy_core.specs.Servers.{has_server, made}
+use Rattle.proxy_core.specs.Sound.{TookWithin}
 use Rattle.conn.specs.Servers.{queue_along, queue_at_server, run_notes, servers_output}
-use Rattle.conn_trace.specs.Places as model
-use Rattle.proxy_core.proofs.AllServers.{one_left, silent_left}
-use Rattle.proxy_core.proofs.ServerCounts.{none_made}
-use Rattle.proxy_core.specs.Servers.{OwnItems, made}
-use Rattle.proxy_core.proofs.OwnItems.{own_more}
-use Rattle.conn_trace.proofs.Streams.{nothing_on_last}
+use Rattle.conn_trace.proofs.Streams.{link_same, nothing_on_last}
 
 -- ---- what is told behind its items
 
@@ -87,110 +87,57 @@ pub sent_joined : (s : Counts) (some more : List Item) → sent_from s (some ++ 
 sent_joined s [] more = refl
 sent_joined s (i ∷ some) more = sent_joined (sent_after i s) some more
 
-up_number : (k : Link) → is_up k ≡ true → number_by k 0 ≡ 1
-up_number link.Up e = refl
-up_number link.Absent e = cc
-up_number link.Asked e = cc
-up_number link.Refused e = cc
-up_number link.Made e = cc
-up_number link.GivenUp e = cc
-
-module _ (g : Setup) (h : Heard) (place : List Item) (l : TraceState) (e : Ends) (k : HoldsEnds (around h) l e) (own : OwnItems g place) (u : Unfolds g (start_of g h) place l) where
-  un : Unserved g.http l
-  un = unserved_at g h place l own u
-
-  first : Numbered l
-  first = numbered_at g h place l own u
-
-  one_server : PlainEnds h l e
-  one_server = plain_ends h l e k un first
-
+module _ (g : Setup) (h : Heard) (place : List Item) (l : TraceState) (e : Ends) (k : HoldsEnds (around h) l e) (within : TookWithin h place) (w : Waits l) (u : Unfolds g (start_of g h) place l) where
   client_within : h.client.took ≤ length (client_output place)
   client_within =
       let sent = ap (λ x. x.client) (sent_at g h place l u) in
       let all = sent_output no_bytes place in
       omega (arith, k.client_untaken, sent, all)
 
-  server_within : last_took h.connects ≤ length (server_output 1 place)
-  server_within = by_link (is_up e.link) refl
-    where
-      by_link : (b : Bool) → is_up e.link ≡ b → last_took h.connects ≤ length (server_output 1 place)
-      by_link true up =
-          let number : l.sent.number ≡ 1 = one_server.number ∙ up_number e.link up in
-          let sent : l.sent.server ≡ length (server_output 1 place) = sent_to_server g _ _ l place u ∙ ap (λ n. length (server_output n place)) number in
-          omega (arith, one_server.server_untaken, sent)
-      by_link false down = let none = one_server.unsent down in omega (arith, one_server.server_untaken, none)
-
-  -- nothing is queued to a server before the first
-  none_queued : l.sent.number ≡ 0 → e.server.queued ≡ []
-  none_queued z = by_link (is_up e.link) refl
-    where
-      by_link : (b : Bool) → is_up e.link ≡ b → e.server.queued ≡ []
-      by_link true up = absurd (let number : l.sent.number ≡ 1 = one_server.number ∙ up_number e.link up in omega (arith, z, number))
-      by_link false down = none_of_length e.server.queued (let none = one_server.unsent down in omega (arith, one_server.server_untaken, none))
-
   -- on the choices that items took
   abbrev on_choices : List Item → TraceState
   on_choices more = longer (taken_by_items (taken h) more) l
 
-  pub queues_joined : (more : List Item) (at : TraceState) (new : Ends) → OwnItems g more → HoldsQueues h place e → new.client.queued ≡ e.client.queued ++ client_output more → queue_at_server new ≡ queue_along more (queue_at_server e) → server_output 0 more ≡ [] → Unfolds g (on_choices more) more at → HoldsQueues h (place ++ more) new
-  queues_joined more at new later q client servers to_none on =
-      let all : queue_at_server new ≡ record { queued = e.server.queued ++ server_output 1 more; lost = 0 } =
-      servers ∙ ap (λ n. queue_along more (record { queued = e.server.queued; lost = n })) q.lost
-      ∙ queue_plain g (on_choices more) at more e.server.queued later (unserved_longer (taken_by_items (taken h) more) l un) (numbered_longer (taken_by_items (taken h) more) l first) on to_none none_queued in
+  same_connects : (more : List Item) → (on_choices more).answers.connects ≡ l.answers.connects
+  same_connects more = append-nil (on_last nothing_comes l.answers.connects) ∙ nothing_on_last nothing_comes l.answers.connects refl
+
+  un : (more : List Item) → Ordered (on_choices more)
+  un more = ordered_longer (taken_by_items (taken h) more) l (ordered_at g h place l u)
+
+  all : (more : List Item) → AllMade h.connects (on_choices more)
+  all more = all_made g h place l u ∙ ap (λ cs. made cs + l.sent.number) (sym (same_connects more))
+
+  behind : TookBehind h.connects place
+  behind n = within.servers (suc n)
+
+  last_within : last_took h.connects ≤ length (server_output (made h.connects) place)
+  last_within = let a = within.servers (made h.connects) in let t = took_last h.connects in omega (arith, a, t)
+
+  queued_before : (more : List Item) → HoldsQueues h place e → Queued (made h.connects) (last_took h.connects) (on_choices more) place e.server.queued
+  queued_before more q there = (q.server (sym (stream_is (around h) l e k) ∙ sym (ap (λ v. has_server v l.answers.connects) (link_same (taken_by_items (taken h) more) l)) ∙ ap (has_server (link_of (on_choices more).server)) (sym (same_connects more)) ∙ there), last_within)
+
+  pub queues_joined : (more : List Item) (at : TraceState) (new : Ends) → HoldsEnds (around h) at new → HoldsQueues h place e → new.client.queued ≡ e.client.queued ++ client_output more → queue_at_server new ≡ queue_along more (queue_at_server e) → server_output 0 more ≡ [] → Unfolds g (on_choices more) more at → HoldsQueues h (place ++ more) new
+  queues_joined more at new held q client servers to_none on =
+      let along = queued_along g h.connects (last_took h.connects) (on_choices more) at place more (queue_at_server e) (un more) (waits_longer (taken_by_items (taken h) more) l (same_connects more) w) (all more) (queued_before more q) on in
+      let before = q.lost in
+      let given = queue_length more (queue_at_server e) in
+      let left = left_along g h.connects (on_choices more) at place more (un more) (all more) behind to_none on in
+      let sum = ap (λ x. length x.queued + x.lost) servers in
       record {
         client = client ∙ ap (λ x. x ++ client_output more) q.client ∙ sym (drop-append-le h.client.took (client_output place) (client_output more) client_within) ∙ ap (drop h.client.took) (sym (flat_map-append to_client place more));
-        server = ap (λ x. x.queued) all ∙ ap (λ x. x ++ server_output 1 more) q.server ∙ sym (drop-append-le (last_took h.connects) (server_output 1 place) (server_output 1 more) server_within)
-            ∙ ap (drop (last_took h.connects)) (sym (flat_map-append (to_server 1) place more));
-        lost = ap (λ x. x.lost) all;
+        server = λ there. ap (λ x. x.queued) servers ∙ (along (stream_is (around h) at new held ∙ there)).0;
+        lost = omega (arith, before, given, left, sum);
       }
 
-  pub sent_behind : (more : List Item) (at : TraceState) → Unfolds g (on_choices more) more at → at.sent ≡ sent_from no_bytes (place ++ more)
-  sent_behind more at on = sent_counted g (on_choices more) at more on ∙ ap (λ s. sent_from s more) (sent_at g h place l u) ∙ sym (sent_joined no_bytes place more)
-
-  -- where none was made none is made by items
-  none_first : made h.connects ≡ 0 → (more : List Item) (at : TraceState) → OwnItems g more → Unfolds g (on_choices more) more at → length (server_output 1 more) ≡ 0
-  none_first none more at later on =
-      let f = taken_by_items (taken h) more in
-      let here = all_made g h place l own u in
-      let same : made (on_choices more).answers.connects ≡ made l.answers.connects = ap made (append-nil (on_last nothing_comes l.answers.connects) ∙ nothing_on_last nothing_comes l.answers.connects refl) in
-      let there = made_along g (on_choices more) at more later (unserved_longer f l un) on in
-      ap length (none_sent g (on_choices more) at more 1 on (omega (arith, none, here, same, there)))
-
   -- what is queued and what was given beside
-  pub out_untaken : (more : List Item) (at : TraceState) → OwnItems g more → HoldsQueues h place e → Unfolds g (on_choices more) more at → server_output 0 more ≡ []
+  pub out_untaken : (more : List Item) (at : TraceState) → HoldsQueues h place e → Unfolds g (on_choices more) more at → server_output 0 more ≡ []
       → queued_in e + (length (client_output more) + length (servers_output more)) ≡ untaken_all h (place ++ more)
-  out_untaken more at later q on to_none =
+  out_untaken more at q on to_none =
       let client : length e.client.queued ≡ length (client_output place) - h.client.took = ap length q.client ∙ length-drop h.client.took (client_output place) in
-      let all : length (client_output (place ++ more)) ≡ length (client_output place) + length (client_output more) = ap length (flat_map-append to_client place more) ∙ length-append (client_output place) (client_output more) in
-      let same = outputs_same g (on_choices more) at more later (unserved_longer (taken_by_items (taken h) more) l un) (numbered_longer (taken_by_items (taken h) more) l first) on to_none in
+      let all_sent : length (client_output (place ++ more)) ≡ length (client_output place) + length (client_output more) = ap length (flat_map-append to_client place more) ∙ length-append (client_output place) (client_output more) in
+      let left = left_along g h.connects (on_choices more) at place more (un more) (all more) behind to_none on in
       let lost = q.lost in
-      let server = one_left h.connects (place ++ more) (few_made h l e one_server) ∙ by_made (has_made h.connects) refl in
-      omega (arith, client, all, client_within, server, same, lost)
-    where
-      unmade_stream : (x : Link) → servers_by [] x e.server.reset (last_took h.connects) ≡ [] → has_stream x ≡ false
-      unmade_stream link.Absent z = refl
-      unmade_stream link.Asked z = refl
-      unmade_stream link.Refused z = refl
-      unmade_stream link.Made z = cc
-      unmade_stream link.Up z = cc
-      unmade_stream link.GivenUp z = cc
-
-      none_taken_of : (cs : List (Option SideHeard)) → made cs ≡ 0 → servers_taken cs ≡ []
-      none_taken_of [] z = refl
-      none_taken_of (None ∷ more) z = none_taken_of more z
-      none_taken_of (Some s ∷ more) z = absurd (omega (arith, z))
-
-      by_made : (b : Bool) → has_made h.connects ≡ b → (if b then length (server_output 1 (place ++ more)) - last_took h.connects else 0) ≡ length e.server.queued + length (server_output 1 more)
-      by_made true made =
-          let queued = ap length q.server ∙ length-drop (last_took h.connects) (server_output 1 place) in
-          let joined = ap length (flat_map-append (to_server 1) place more) ∙ length-append (server_output 1 place) (server_output 1 more) in
-          omega (arith, queued, joined, server_within)
-      by_made false none =
-          let count = none_made h.connects none in
-          let more_none = none_first count more at later on in
-          let queued : length e.server.queued ≡ 0 = ap (λ x. length x.queued) (k.nothing_came (unmade_stream e.link (sym one_server.servers_took ∙ none_taken_of h.connects count))) in
-          omega (arith, more_none, queued)
+      omega (arith, client, all_sent, client_within, left, lost)
 
 -- ---- slices
 
@@ -229,7 +176,7 @@ pub record RanConn (C : Config) (past : Past) (s : State) (c : ℕ) (rest : List
 abbrev pub RunStood : Config → ℕ → Heard → List Item → Type 0
 RunStood C c h place =
     h.failed ≡ false → (more : List Item) (at : TraceState) (behind : List Note) → TellsNothing c behind → Passes (setup_of C h) (taken h) (stand_of C h place) more at
-    → Unfolds (setup_of C h) (start_of (setup_of C h) (hears c h Runs (notes_of c more ++ behind))) (place ++ more) at
+    → Unfolds (setup_of C h) (start_of (setup_of C h) (hears c h Runs (run_notes c (stand_of C h place).sent (taken h) more ++ behind))) (place ++ more) at
 
 asks_behind : (t : ConnTurn) → asks t ≡ is_any (asked_behind t)
 asks_behind turn.More = refl
@@ -275,23 +222,15 @@ module _ (C : Config) (past : Past) (s : State) (c : ℕ) (rest : List ℕ) wher
         let slices = slices_in t (length group) in
         let next = ran c (ring_behind t c rest) (queue_behind t c s.queue) w.more slices s in
         let paid = slices_paid g w.at new t steps (length group) (s.spent c) place w.more whole (w.pays (1991 * s.spent c) (paid_by place) z.paid) in
-        let f = taken_by_items (taken h) w.more in
-        let before = unserved_at g h place l k.own k.stands in
-        let own = own_more g f l w.at w.more h.finished h.edges.server.state refl before k.linked w.items.alone w.items.passes.passed in
-        let queues = queues_joined g h place l old.ends z.holds.ends k.own k.stands w.more w.at new.ends own z.queues w.client_queue w.servers w.to_none w.items.passes.passed in
-        let un = unserved_longer f l before in
-        let first = numbered_longer f l (numbered_at g h place l k.own k.stands) in
-        let plain = plain_ends h w.at new.ends w.holds.ends (unserved g (longer f l) w.at w.more own un w.items.passes.passed) (numbered g (longer f l) w.at w.more own un first w.items.passes.passed) in
-        let left : queued_in new.ends ≡ untaken_all h all = queued_untaken h w.at all new.ends w.holds.ends plain queues in
-        let items = notes_of c w.more in
+        let queues = queues_joined g h place l old.ends z.holds.ends k.within k.linked.waits k.stands w.more w.at new.ends w.holds.ends z.queues w.client_queue w.servers w.to_none w.items.passes.passed in
+        let left : queued_in new.ends ≡ untaken_all h all = queued_untaken h all new.ends queues in
+        let items = run_notes c l.sent (taken h) w.more in
         let told : Edges → ℕ → List Note = λ e d. told_behind t g (taken h) w.at c (edges_noted items e) d in
         let behind = told h.edges (untaken_all h all) in
-        let noted : group ≡ items ++ behind = (runs_noted w.items) ∙ ap (λ e. items ++ told e (queued_in new.ends)) (sym edges) ∙ ap (λ d. items ++ told h.edges d) left in
-        let run_told = w.items.noted ∙ ap (λ e. run_notes c l.sent (taken h) w.more ++ told_behind t g (taken h) w.at c (edges_noted (run_notes c l.sent (taken h) w.more) e) (queued_in new.ends)) (sym edges)
-        ∙ ap (λ d. run_notes c l.sent (taken h) w.more ++ told_behind t g (taken h) w.at c (edges_noted (run_notes c l.sent (taken h) w.more) h.edges) d) left in
+        let noted : group ≡ items ++ behind = w.items.noted ∙ ap (λ e. items ++ told e (queued_in new.ends)) (sym edges) ∙ ap (λ d. items ++ told h.edges d) left in
         let due : AreDue c behind = told_due t g (taken h) w.at c (edges_noted items h.edges) (untaken_all h all) in
-        let ofs = of_items c w.more in
-        let about_all : About c (items ++ behind) = about_joined c items behind (about_items c items ofs) (due_about c behind due) in
+        let ofs = of_runs c l.sent (taken h) w.more in
+        let about_all : About c (items ++ behind) = about_joined c items behind (about_runs c items ofs) (due_about c behind due) in
         let h' = hears c h Runs (items ++ behind) in
         let around_same : around h' ≡ around h = around_quiet c h Runs (items ++ behind) refl refl in
         let stands = ran_on z.not_failed w.more w.at behind (due_quiet c behind due) w.items.passes in
@@ -302,22 +241,23 @@ module _ (C : Config) (past : Past) (s : State) (c : ℕ) (rest : List ℕ) wher
         let Z : List Item → ℕ → Type 0 = λ p n. Continues C (record (seen_after past Runs (items ++ behind) next c) { place = p; spent = n }) new in
         let N : (if nat_eq c c then s.spent c + slices else s.spent c) ≡ s.spent c + slices = ap (λ (b : Bool). if b then s.spent c + slices else s.spent c) (eq_self c) in
         let A : List Note → Type 0 = λ x. About c x in
+        let I : Edges → ℕ → Type 0 = λ e d. RunsItems g (taken h) e l c w.more w.at group t d in
         record {
           next = next;
           ring = refl;
           queue = refl;
           asking = λ x. w.asking ∙ asks_behind t ∙ ap is_any (sym (calls_behind_self t c s.queue none));
-          moves = subst M (sym z.not_failed) (inl (record { more = w.more; at = w.at; turn = t; items = record { passes = w.items.passes; kept = w.items.kept; alone = w.items.alone; noted = run_told; stops = w.items.stops; forward = w.items.forward; calls = w.items.calls }; paid = affords g (around h) w.at new (1991 * (s.spent c + slices)) (paid_by all) w.holds paid; state = refl }));
+          moves = subst M (sym z.not_failed) (inl (record { more = w.more; at = w.at; turn = t; items = subst (I h.edges) left (subst (λ e. I e (queued_in new.ends)) (sym edges) w.items); paid = affords g (around h) w.at new (1991 * (s.spent c + slices)) (paid_by all) w.holds paid; state = refl }));
           about = subst A (sym noted) about_all;
-          ended = ap ended_in noted ∙ ended_behind c items behind ofs ∙ told_ends t g (taken h) w.at c (edges_noted items h.edges) (untaken_all h all) w.items.stops;
+          ended = ap ended_in noted ∙ ended_runs c items behind ofs ∙ told_ends t g (taken h) w.at c (edges_noted items h.edges) (untaken_all h all) w.items.stops;
           setup = λ x. refl;
           goes_on = λ x. inl (subst G (sym noted) (subst (λ p. Z p (if nat_eq c c then s.spent c + slices else s.spent c)) (sym P) (subst (Z all) (sym N) (record {
-            not_failed = ap (λ b. b || failure_told (notes_about c (items ++ behind))) z.not_failed ∙ ap failure_told (tells_all c (items ++ behind) about_all) ∙ failure_behind c items behind ofs ∙ due_failure c behind due;
+            not_failed = ap (λ b. b || failure_told (notes_about c (items ++ behind))) z.not_failed ∙ ap failure_told (tells_all c (items ++ behind) about_all) ∙ failure_runs c items behind ofs ∙ due_failure c behind due;
             holds = to_standing C h' g all w.at new refl stands (subst T (sym around_same) w.holds);
             queues = record {
               client = queues.client ∙ ap (λ a. drop a.counted (client_output all)) (sym around_same);
-              server = queues.server ∙ ap (λ a. drop a.counted_server (server_output 1 all)) (sym around_same);
-              lost = queues.lost;
+              server = λ there. queues.server there ∙ ap (λ a. drop a.counted_server (server_output (made h.connects) all)) (sym around_same) ∙ ap (λ cs. drop (last_took h'.connects) (server_output (made cs) all)) (sym (run_stays c h (items ++ behind)).connects);
+              lost = queues.lost ∙ ap (λ cs. servers_left 1 cs all) (sym (run_stays c h (items ++ behind)).connects);
             };
             paid = paid_standing C h' g all w.at new (1991 * (s.spent c + slices)) (paid_by all) refl stands paid;
           }))));
@@ -330,16 +270,14 @@ module _ (C : Config) (past : Past) (s : State) (c : ℕ) (rest : List ℕ) wher
         let l = stand_of C h place in
         let all = place ++ w.more in
         let next = ran c rest s.queue w.more 0 s in
-        let items = notes_of c w.more in
         let given = queued_in old.ends + (length (client_output w.more) + length (servers_output w.more)) in
-        let own = own_more g (taken_by_items (taken h) w.more) l w.at w.more h.finished h.edges.server.state refl (unserved_at g h place l k.own k.stands) k.linked w.alone w.passes.passed in
-        let left : given ≡ untaken_all h all = out_untaken g h place l old.ends z.holds.ends k.own k.stands w.more w.at own z.queues w.passes.passed w.to_none in
+        let items = run_notes c l.sent (taken h) w.more in
+        let left : given ≡ untaken_all h all = out_untaken g h place l old.ends z.holds.ends k.within k.linked.waits k.stands w.more w.at z.queues w.passes.passed w.to_none in
         let out : Edges → ℕ → List Note = λ e d. out_of_memory c e l.sent (taken h) w.more d in
-        let run_told : group ≡ out h.edges (untaken_all h all) = w.noted ∙ ap (λ e. out e given) (sym edges) ∙ ap (out h.edges) left in
-        let noted : group ≡ out_notes c h.edges w.more (untaken_all h all) = out_noted c h.edges l.sent (taken h) w.more (untaken_all h all) w.kept run_told in
+        let noted : group ≡ out h.edges (untaken_all h all) = w.noted ∙ ap (λ e. out e given) (sym edges) ∙ ap (out h.edges) left in
         let last = closing c (edges_noted items h.edges) (untaken_all h all) in
         let due = closing_due c (edges_noted items h.edges) (untaken_all h all) in
-        let ofs = of_items c w.more in
+        let ofs = of_runs c l.sent (taken h) w.more in
         let M : Bool → Type 0 = λ b. MatchBool b (RunsFailed h c rest group s next) (RunsOn C h c rest group s next ⊎ RunsOut C h c rest group s next) in
         let A : List Note → Type 0 = λ x. About c x in
         record {
@@ -347,9 +285,9 @@ module _ (C : Config) (past : Past) (s : State) (c : ℕ) (rest : List ℕ) wher
           ring = ap (λ x. ring_behind x c rest) (sym w.over);
           queue = ap (λ x. queue_behind x c s.queue) (sym w.over);
           asking = λ x. absurd (over_stays t w.over x);
-          moves = subst M (sym z.not_failed) (inr (record { more = w.more; at = w.at; passes = w.passes; no_call = w.no_call; kept = w.kept; alone = w.alone; notes = run_told; state = refl }));
-          about = subst A (sym noted) (about_joined c items (Finish c Memory ∷ last) (about_items c items ofs) (refl, due_about c last due));
-          ended = ap ended_in noted ∙ ended_behind c items (Finish c Memory ∷ last) ofs ∙ ended_closing c (edges_noted items h.edges) (untaken_all h all) ∙ ap (λ x. if ends x then c ∷ [] else []) (sym w.over);
+          moves = subst M (sym z.not_failed) (inr (record { more = w.more; at = w.at; passes = w.passes; no_call = w.no_call; notes = noted; state = refl }));
+          about = subst A (sym noted) (about_joined c items (Finish c Memory ∷ last) (about_runs c items ofs) (refl, due_about c last due));
+          ended = ap ended_in noted ∙ ended_runs c items (Finish c Memory ∷ last) ofs ∙ ended_closing c (edges_noted items h.edges) (untaken_all h all) ∙ ap (λ x. if ends x then c ∷ [] else []) (sym w.over);
           setup = λ x. absurd (over_stays t w.over x);
           goes_on = λ x. absurd (over_stays t w.over x);
         }
@@ -361,7 +299,7 @@ module _ (C : Config) (past : Past) (s : State) (c : ℕ) (rest : List ℕ) wher
     front_runs group t steps S edges (Some old) None z e none asks serves r whole = absurd r
     front_runs group t steps S edges (Some old) (Some new) (inr z) e none asks serves r whole =
         let x = r.failed z.there in
-        front_failed group t (Some new) (queued_in old.ends) z.failed (queued_untaken h (stand_of C h place) place old.ends z.ends (plain_ends h (stand_of C h place) old.ends z.ends (unserved_at (setup_of C h) h place (stand_of C h place) k.own k.stands) (numbered_at (setup_of C h) h place (stand_of C h place) k.own k.stands)) z.queues) (x.0 ∙ ap (λ y. closing c y (queued_in old.ends)) (sym e)) x.1
+        front_failed group t (Some new) (queued_in old.ends) z.failed (queued_untaken h place old.ends z.queues) (x.0 ∙ ap (λ y. closing c y (queued_in old.ends)) (sym e)) x.1
     front_runs group t steps S edges (Some old) (Some new) (inl z) e none asks serves r whole = by_end (r.runs (setup_of C h) (around h) (stand_of C h place) serves z.holds (asks ∙ ap is_any none))
       where
         by_end : GoesOnWith (setup_of C h) (around h) (stand_of C h place) c old new group t steps ⊎ StopsWithout (setup_of C h) (around h) (stand_of C h place) c old group t → RanConn C past s c rest group t (Some new)

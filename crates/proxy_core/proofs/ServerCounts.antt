@@ -8,7 +8,7 @@ use Rattle.core_events.specs.declared.event_kind.EventKind.TheVariants.{Comes}
 use Rattle.core_events.specs.declared.input.Input.{Input}
 use Rattle.core_events.specs.declared.input.Input.TheVariants.{Bytes, Ends, Resets, Connects, Takes}
 use Rattle.conn_trace.specs.Heard.{SideHeard, Heard, taken_by, side_taken, servers_taken, has_made}
-use Rattle.conn_trace.specs.Heard.{hears_by, hears_more, at_last, answer, as_answer, Brought}
+use Rattle.conn_trace.specs.Heard.{hears_by, hears_more, at_last, unless_late, answer, as_answer, Brought}
 use Rattle.conn_trace.specs.Heard.{brought_nothing, brings_in, marks, event_brings, event_marks}
 use Rattle.conn_trace.specs.Heard.{brought, hears}
 use Rattle.conn_trace.specs.Further.{Coming}
@@ -156,14 +156,22 @@ more_of other = 0
 abbrev pub TookBy : ℕ → ℕ → List (Option SideHeard) → List (Option SideHeard) → Type 0
 TookBy n k old new = (took_behind k new ≡ took_behind k old) ⊎ ((suc k ≡ made old) × (took_behind k new ≡ took_behind k old + n))
 
+same_unless : (late : Bool) (f : SideHeard → SideHeard) → ((s : SideHeard) → (f s).took ≡ s.took) → (k : ℕ) (cs : List (Option SideHeard)) → took_behind k (unless_late late f cs) ≡ took_behind k cs
+same_unless true f same k cs = refl
+same_unless false f same k cs = took_same f same k cs
+
+more_unless : (late : Bool) (n k : ℕ) (cs : List (Option SideHeard)) → TookBy n k cs (unless_late late (λ s. record s { took = s.took + n }) cs)
+more_unless true n k cs = inl refl
+more_unless false n k cs = took_more n k cs
+
 marks_took : (input : Input) (h : Heard) (k : ℕ) → TookBy (more_of input) k h.connects (marks input h).connects
 marks_took (Bytes side bytes) h k = inl refl
 marks_took (Ends side) h k = inl refl
 marks_took (Connects made) h k = inl refl
 marks_took (Resets Client) h k = inl refl
-marks_took (Resets Server) h k = inl (took_same (λ s. record s { reset = true }) (λ s. refl) k h.connects)
+marks_took (Resets Server) h k = inl (same_unless h.late (λ s. record s { reset = true }) (λ s. refl) k h.connects)
 marks_took (Takes Client n) h k = inl refl
-marks_took (Takes Server n) h k = took_more n k h.connects
+marks_took (Takes Server n) h k = more_unless h.late n k h.connects
 
 event_took : (c : ℕ) (h : Heard) (input : Input) (k : ℕ) (b : Bool) → TookBy (more_of input) k h.connects (if b then marks input h else h).connects
 event_took c h input k true = marks_took input h k

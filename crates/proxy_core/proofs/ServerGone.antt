@@ -1,6 +1,9 @@
--- Behind an event no answer of a server is awaited, and there is no server connection where one is selected.
-use Rattle.std.proofs.Common.{◌≡◌, refl, sym, subst, ℕ, zero, suc, List, [], ◌∷◌, Bool, true, false, true≢false, if◌then◌else◌, Option, Some, None}
+-- Behind an event or a message no answer of a server is awaited, rules are told of a server connection only where one is up, and one is being given up only where its closing event runs.
+use Rattle.std.proofs.Common.{◌≡◌, refl, sym, ◌∙◌, ℕ, zero, suc, List, [], ◌∷◌, Bool, true, false, true≢false, if◌then◌else◌, Option, Some, None}
+use Rattle.px_bytes.specs.declared.addr.Side.{Side}
 use Rattle.px_bytes.specs.declared.addr.Side.TheVariants.{Client, Server}
+use Rattle.px_bytes.specs.declared.fault.FaultKind.{FaultKind}
+use Rattle.px_bytes.specs.declared.fault.TclFault.{TclFault}
 use Rattle.event_order.specs.declared.event.EventName.{EventName}
 use Rattle.event_order.specs.declared.event.EventName.TheVariants.{ClientAccepted, ClientData, ClientClosed, ServerConnected, ServerData, ServerClosed, LbSelected, LbFailed, HttpRequest, HttpRequestData, HttpResponse, HttpResponseData}
 use Rattle.irule_net.specs.declared.state.Asks.{Asks}
@@ -8,180 +11,253 @@ use Rattle.irule_net.specs.declared.state.Asks.TheVariants.{NotAsked, Stated}
 use Rattle.irule_net.specs.declared.state.Ending.{Ending}
 use Rattle.irule_net.specs.declared.state.Ending.TheVariants.{Rejects, Closes}
 use Rattle.irule_net.specs.declared.state.Selected.{Selected}
-use Rattle.conn_trace.specs.Host.{HostState, http_of, speaks_http}
-use Rattle.conn_trace.specs.Item.{Unselected}
-use Rattle.conn_trace.specs.Http.{wanted_more}
-use Rattle.conn_trace.specs.Routing.{behind_accept, behind_accepted, behind_answer, behind_asked, behind_connect, behind_connected, behind_failed, behind_request, behind_request_data, behind_response, behind_told, gathering}
-use Rattle.conn_trace.specs.Places.{place, is_up, begun, bodies_left, closed_client, closed, connecting, behind_data, goes_on, unless_ended, after_event, entered, enter, next_body}
-use Rattle.conn_trace.specs.Setup.{Handler, Setup}
 use Rattle.irule_http.specs.State.{expects_by}
-use Rattle.conn_trace.specs.State.{Phase, Heading, InEvent, Choosing, Selecting, Connecting, Answering, Collecting, Finishing, Draining, Link, Absent, Asked, Up, Left, GivenUp, link_of, TraceState}
-use Rattle.conn_trace.specs.Spoken.{is_http_event}
+use Rattle.conn_trace.specs.Host.{HostState, http_of, speaks_http}
+use Rattle.conn_trace.specs.Http.{client_goes_on, wanted_more}
+use Rattle.conn_trace.specs.Item.{Closed, Tcl, Unselected}
+use Rattle.conn_trace.specs.Messages.{behind_head}
+use Rattle.conn_trace.specs.Phases.{is_leaving}
+use Rattle.conn_trace.specs.Places.{Place, place, is_closing, is_up, begun, bodies_left, closed_client, closed, connecting, behind_data, giving_up, goes_on, unless_ended, after_event, after_fault, after_body, entered, enter, next_body}
+use Rattle.conn_trace.specs.Routing.{behind_accept, behind_accepted, behind_answer, behind_asked, behind_connect, behind_connected, behind_failed, behind_message, behind_request, behind_request_data, behind_response, behind_retired, behind_told, gathering, is_left, is_spent_link, next_request, routed}
+use Rattle.conn_trace.specs.Setup.{Handler, Setup}
+use Rattle.conn_trace.specs.State.{Bodies, Phase, Behind, BeforeSelect, BehindMessage, AtHead, AtReuse, GivingUp, Retiring, Heading, Forwarding, AtResponse, InEvent, Choosing, Answering, Collecting, Finishing, Draining, Link, Absent, Asked, Up, Left, GivenUp}
 use Rattle.proxy_core.specs.Servers.{awaits}
 
 pub never : {A : Type 0} → false ≡ true → A
 never e = absurd (true≢false (sym e))
 
--- while it hasn't finished there is no server connection in the bodies of these events
-abbrev pub event_unlinked : EventName → Bool
-event_unlinked ClientAccepted = true
-event_unlinked LbSelected = true
-event_unlinked LbFailed = true
-event_unlinked ServerClosed = true
-event_unlinked other = false
+-- no bodies run, and no answer is awaited
+abbrev pub is_calm : Phase → Bool
+is_calm (InEvent e bodies) = false
+is_calm (Answering a) = false
+is_calm other = true
 
--- and in these phases
-abbrev pub unlinked : Phase → Bool
-unlinked (InEvent e bodies) = event_unlinked e
-unlinked Choosing = true
-unlinked (Selecting call) = true
-unlinked (Connecting a) = true
-unlinked (Answering a) = true
-unlinked Collecting = true
-unlinked other = false
+pub calm_waits : (p : Phase) → is_calm p ≡ true → awaits p ≡ false
+calm_waits (Answering a) e = never e
+calm_waits other e = refl
 
-abbrev pub NotUpIn : Phase → (finished : Bool) → Link → Type 0
-NotUpIn p finished link = finished ≡ false → unlinked p ≡ true → is_up link ≡ false
+either : (b : Bool) (p q : Phase) → is_calm p ≡ true → is_calm q ≡ true → is_calm (if b then p else q) ≡ true
+either true p q e f = e
+either false p q e f = f
 
-abbrev pub NotUp : TraceState → Type 0
-NotUp l = NotUpIn l.phase l.finished (link_of l.server)
+ended_calm : (o : Option Ending) (p : Phase) → is_calm p ≡ true → is_calm (unless_ended o p) ≡ true
+ended_calm None p e = e
+ended_calm (Some Rejects) p e = refl
+ended_calm (Some Closes) p e = refl
 
--- where it goes behind an event no answer is awaited
-pub record Gone (finished : Bool) (link : Link) (p : Phase) : Type 0 where
-  pub waits : awaits p ≡ false
-  pub not_up : NotUpIn p finished link
+data_calm : (k : Link) (released : Bool) → is_calm (behind_data k released) ≡ true
+data_calm Up r = refl
+data_calm Absent r = either r Choosing Collecting refl refl
+data_calm Asked r = either r Choosing Collecting refl refl
+data_calm (Left b) r = either r Choosing Collecting refl refl
+data_calm GivenUp r = either r Choosing Collecting refl refl
 
-ended_gone : (f : Bool) (k : Link) (o : Option Ending) (p : Phase) → Gone f k p → Gone f k (unless_ended o p)
-ended_gone f k None p g = g
-ended_gone f k (Some Rejects) p g = record { waits = refl; not_up = λ x e. never e }
-ended_gone f k (Some Closes) p g = record { waits = refl; not_up = λ x e. never e }
+accepted_calm : (a : Asks) → is_calm (behind_accepted a) ≡ true
+accepted_calm NotAsked = refl
+accepted_calm (Stated n) = refl
 
-data_gone : (f : Bool) (k : Link) (released : Bool) → Gone f k (behind_data k released)
-data_gone f Up released = record { waits = refl; not_up = λ x e. never e }
-data_gone f Absent true = record { waits = refl; not_up = λ x e. refl }
-data_gone f Absent false = record { waits = refl; not_up = λ x e. refl }
-data_gone f Asked true = record { waits = refl; not_up = λ x e. refl }
-data_gone f Asked false = record { waits = refl; not_up = λ x e. refl }
-data_gone f (Left b) true = record { waits = refl; not_up = λ x e. refl }
-data_gone f (Left b) false = record { waits = refl; not_up = λ x e. refl }
-data_gone f GivenUp true = record { waits = refl; not_up = λ x e. refl }
-data_gone f GivenUp false = record { waits = refl; not_up = λ x e. refl }
+accept_calm : (http : Bool) (h : HostState) → is_calm (behind_accept http h) ≡ true
+accept_calm true h = refl
+accept_calm false h = accepted_calm h.net.client.asks
 
-accepted_gone : (f : Bool) (k : Link) (a : Asks) → (f ≡ false → is_up k ≡ false) → Gone f k (behind_accepted a)
-accepted_gone f k NotAsked n = record { waits = refl; not_up = λ x e. n x }
-accepted_gone f k (Stated i) n = record { waits = refl; not_up = λ x e. n x }
+connected_calm : (loose : List ℕ) → is_calm (behind_connected loose) ≡ true
+connected_calm [] = refl
+connected_calm (b ∷ bs) = refl
 
-selected_gone : (f : Bool) (k : Link) (o : Option Selected) → (f ≡ false → is_up k ≡ false) → Gone f k (connecting o)
-selected_gone f k None n = record { waits = refl; not_up = λ x e. never e }
-selected_gone f k (Some s) n = record { waits = refl; not_up = λ x e. n x }
+connect_calm : (http : Bool) (h : HostState) → is_calm (behind_connect http h) ≡ true
+connect_calm true h = refl
+connect_calm false h = connected_calm h.net.loose
 
-failed_gone : (f : Bool) (k : Link) (b : Bool) → (f ≡ false → is_up k ≡ false) → Gone f k (if b then Choosing else Finishing Unselected)
-failed_gone f k true n = record { waits = refl; not_up = λ x e. n x }
-failed_gone f k false n = record { waits = refl; not_up = λ x e. never e }
+selected_calm : (o : Option Selected) → is_calm (connecting o) ≡ true
+selected_calm None = refl
+selected_calm (Some s) = refl
 
-connected_gone : (f : Bool) (k : Link) (loose : List ℕ) → Gone f k (behind_connected loose)
-connected_gone f k [] = record { waits = refl; not_up = λ x e. never e }
-connected_gone f k (b ∷ bs) = record { waits = refl; not_up = λ x e. never e }
+failed_calm : (answer : Option Bool) (h : HostState) → is_calm (behind_failed answer h) ≡ true
+failed_calm (Some closing) h = refl
+failed_calm None h = either h.net.wishes.reselects Choosing (Finishing Unselected) refl refl
 
-accept_gone : (f : Bool) (k : Link) (h : HostState) (http : Bool) → (f ≡ false → is_up k ≡ false) → Gone f k (behind_accept http h)
-accept_gone f k h true n = record { waits = refl; not_up = λ x e. never e }
-accept_gone f k h false n = accepted_gone f k h.net.client.asks n
+routed_calm : (k : Link) (h : HostState) → is_calm (routed k h) ≡ true
+routed_calm Up h = either (is_left h) (GivingUp BeforeSelect) AtReuse refl refl
+routed_calm Absent h = refl
+routed_calm Asked h = refl
+routed_calm (Left b) h = refl
+routed_calm GivenUp h = refl
 
-connect_gone : (f : Bool) (k : Link) (h : HostState) (http : Bool) → Gone f k (behind_connect http h)
-connect_gone f k h true = record { waits = refl; not_up = λ x e. never e }
-connect_gone f k h false = connected_gone f k h.net.loose
+gathering_calm : (side : Side) (n : ℕ) (h : HostState) (p : Phase) → is_calm p ≡ true → is_calm (gathering side n h p) ≡ true
+gathering_calm side zero h p e = e
+gathering_calm side (suc n) h p e = refl
 
-answer_gone : (f : Bool) (k : Link) (h : HostState) (answer : Option Bool) → (f ≡ false → is_up k ≡ false) → Gone f k (behind_failed answer h)
-answer_gone f k h (Some closing) n = record { waits = refl; not_up = λ x e. never e }
-answer_gone f k h None n = failed_gone f k h.net.wishes.reselects n
+pub asked_calm : (k : Link) (h : HostState) → is_calm (behind_asked k h) ≡ true
+asked_calm k h = gathering_calm Client (wanted_more (http_of h)) h (routed k h) (routed_calm k h)
 
--- with HTTP, where there is no server connection
-absent_gone : (f : Bool) (n : ℕ) (h : HostState) → Gone f Absent (gathering Client n h Choosing)
-absent_gone f zero h = record { waits = refl; not_up = λ x e. refl }
-absent_gone f (suc n) h = record { waits = refl; not_up = λ x e. never e }
+told_calm : (expects : Bool) (k : Link) (h : HostState) → is_calm (behind_told expects k h) ≡ true
+told_calm true k h = refl
+told_calm false k h = asked_calm k h
 
-pub asked_gone : (f : Bool) (k : Link) (h : HostState) → k ≡ Absent → Gone f k (behind_asked k h)
-asked_gone f k h is = subst (λ x. Gone f x (behind_asked x h)) (sym is) (absent_gone f (wanted_more (http_of h)) h)
+answer_calm : (expects : Bool) (h : HostState) → is_calm (behind_answer expects h) ≡ true
+answer_calm true h = refl
+answer_calm false h = refl
 
-answered_gone : (f : Bool) (k : Link) (h : HostState) (expects : Bool) → Gone f k (behind_answer expects h)
-answered_gone f k h true = record { waits = refl; not_up = λ x e. never e }
-answered_gone f k h false = record { waits = refl; not_up = λ x e. never e }
+request_calm : (answer : Option Bool) (k : Link) (h : HostState) → is_calm (behind_request answer k h) ≡ true
+request_calm (Some closing) k h = answer_calm (expects_by (http_of h).came) h
+request_calm None k h = told_calm (expects_by (http_of h).came) k h
 
-told_gone : (f : Bool) (k : Link) (h : HostState) (expects : Bool) → k ≡ Absent → Gone f k (behind_told expects k h)
-told_gone f k h true is = record { waits = refl; not_up = λ x e. never e }
-told_gone f k h false is = asked_gone f k h is
+request_data_calm : (answer : Option Bool) (k : Link) (h : HostState) → is_calm (behind_request_data answer k h) ≡ true
+request_data_calm (Some closing) k h = refl
+request_data_calm None k h = asked_calm k h
 
-request_gone : (f : Bool) (k : Link) (h : HostState) (answer : Option Bool) → k ≡ Absent → Gone f k (behind_request answer k h)
-request_gone f k h (Some closing) is = answered_gone f k h (expects_by (http_of h).came)
-request_gone f k h None is = told_gone f k h (expects_by (http_of h).came) is
+response_calm : (answer : Option Bool) (h : HostState) → is_calm (behind_response answer h) ≡ true
+response_calm (Some closing) h = refl
+response_calm None h = gathering_calm Server (wanted_more (http_of h)) h (Heading Server) refl
 
-request_data_gone : (f : Bool) (k : Link) (h : HostState) (answer : Option Bool) → k ≡ Absent → Gone f k (behind_request_data answer k h)
-request_data_gone f k h (Some closing) is = record { waits = refl; not_up = λ x e. never e }
-request_data_gone f k h None is = asked_gone f k h is
+pub next_calm : (h : HostState) → is_calm (next_request h) ≡ true
+next_calm h = either (client_goes_on (http_of h)) AtHead (Finishing Closed) refl refl
 
-gathered_gone : (f : Bool) (k : Link) (n : ℕ) (h : HostState) → Gone f k (gathering Server n h (Heading Server))
-gathered_gone f k zero h = record { waits = refl; not_up = λ x e. never e }
-gathered_gone f k (suc n) h = record { waits = refl; not_up = λ x e. never e }
+pub message_calm : (side : Side) (h : HostState) → is_calm (behind_message side h) ≡ true
+message_calm Client h = refl
+message_calm Server h = either (is_spent_link h) (GivingUp BehindMessage) (next_request h) refl (next_calm h)
 
-response_gone : (f : Bool) (k : Link) (h : HostState) (answer : Option Bool) → Gone f k (behind_response answer h)
-response_gone f k h (Some closing) = record { waits = refl; not_up = λ x e. never e }
-response_gone f k h None = gathered_gone f k (wanted_more (http_of h)) h
+pub head_calm : (side : Side) (h : HostState) (whole : Bool) → is_calm (behind_head side h whole) ≡ true
+head_calm side h true = message_calm side h
+head_calm side h false = refl
 
-goes : (e : EventName) (f : Bool) (k : Link) (h : HostState) → (is_http_event e ≡ true → k ≡ Absent) → (f ≡ false → event_unlinked e ≡ true → is_up k ≡ false) → Gone f k (goes_on e k h)
-goes ClientAccepted f k h low n = accept_gone f k h (speaks_http h) (λ x. n x refl)
-goes ClientData f k h low n = data_gone f k h.net.wishes.released
-goes LbSelected f k h low n = selected_gone f k h.net.selected (λ x. n x refl)
-goes LbFailed f k h low n = answer_gone f k h (http_of h).answer (λ x. n x refl)
-goes ServerConnected f k h low n = connect_gone f k h (speaks_http h)
-goes ServerData f k h low n = record { waits = refl; not_up = λ x e. never e }
-goes HttpRequest f k h low n = request_gone f k h (http_of h).answer (low refl)
-goes HttpRequestData f k h low n = request_data_gone f k h (http_of h).answer (low refl)
-goes HttpResponse f k h low n = response_gone f k h (http_of h).answer
-goes HttpResponseData f k h low n = response_gone f k h (http_of h).answer
-goes other f k h low n = record { waits = refl; not_up = λ x e. never e }
+pub retired_calm : (b : Behind) (h : HostState) → is_calm (behind_retired b h) ≡ true
+retired_calm BeforeSelect h = refl
+retired_calm BehindMessage h = next_calm h
 
-client_gone : (g : Setup) (k : Link) (h : HostState) (f : Bool) → Gone f k (closed_client g k h).phase
-client_gone g k h f = by_bodies (g.handlers ClientClosed)
+goes_calm : (e : EventName) (k : Link) (h : HostState) → is_calm (goes_on e k h) ≡ true
+goes_calm ClientAccepted k h = accept_calm (speaks_http h) h
+goes_calm ClientData k h = data_calm k h.net.wishes.released
+goes_calm LbSelected k h = selected_calm h.net.selected
+goes_calm LbFailed k h = failed_calm (http_of h).answer h
+goes_calm ServerConnected k h = connect_calm (speaks_http h) h
+goes_calm HttpRequest k h = request_calm (http_of h).answer k h
+goes_calm HttpRequestData k h = request_data_calm (http_of h).answer k h
+goes_calm HttpResponse k h = response_calm (http_of h).answer h
+goes_calm HttpResponseData k h = response_calm (http_of h).answer h
+goes_calm other k h = refl
+
+-- ---- where it stands
+
+-- in the bodies of an event the host is in this event
+abbrev pub EventIs : Phase → HostState → Type 0
+EventIs (InEvent e bodies) h = h.event ≡ e
+EventIs other h = Unit {0}
+
+pub calm_event : (p : Phase) (h : HostState) → is_calm p ≡ true → EventIs p h
+calm_event (InEvent e bodies) h c = never c
+calm_event other h c = tt
+
+-- its rules are told of a server connection
+abbrev pub ToldOf : Link → HostState → Type 0
+ToldOf k h = h.net.relays ≡ true → is_up k ≡ true
+
+-- a connection that goes on has a server connection that is being given up only here
+abbrev pub leaves_in : EventName → Bool
+leaves_in ServerClosed = true
+leaves_in other = false
+
+abbrev pub leaves : Phase → Bool
+leaves (InEvent e bodies) = leaves_in e
+leaves (Retiring b) = true
+leaves other = false
+
+abbrev pub LeavesThere : (finished : Bool) → Link → Phase → Type 0
+LeavesThere f k p = f ≡ false → is_leaving k ≡ true → leaves p ≡ true
+
+-- so elsewhere it has none
+abbrev pub Unleft : (finished : Bool) → Link → Type 0
+Unleft f k = f ≡ false → is_leaving k ≡ false
+
+pub not_left : (f : Bool) (k : Link) (p : Phase) → LeavesThere f k p → leaves p ≡ false → Unleft f k
+not_left f k p h e x = by (is_leaving k) refl
   where
-    by_bodies : (bs : List Handler) → Gone f k (bodies_left ClientClosed bs (begun ClientClosed k h) (place Draining (begun ClientClosed k h))).phase
-    by_bodies [] = record { waits = refl; not_up = λ x e. never e }
-    by_bodies (b ∷ bs) = record { waits = refl; not_up = λ x e. never e }
+    by : (b : Bool) → is_leaving k ≡ b → is_leaving k ≡ false
+    by true y = absurd (true≢false (sym (h x y) ∙ e))
+    by false y = y
 
-after : (g : Setup) (e : EventName) (f : Bool) (k : Link) (h : HostState) → (is_http_event e ≡ true → k ≡ Absent) → (f ≡ false → event_unlinked e ≡ true → is_up k ≡ false) → Gone f k (after_event g e f k h).phase
-after g ServerClosed true k h low n = client_gone g k h true
-after g ServerClosed false Absent h low n = record { waits = refl; not_up = λ x e. n x refl }
-after g ServerClosed false Asked h low n = record { waits = refl; not_up = λ x e. n x refl }
-after g ServerClosed false Up h low n = record { waits = refl; not_up = λ x e. n x refl }
-after g ServerClosed false (Left b) h low n = record { waits = refl; not_up = λ x e. never e }
-after g ServerClosed false GivenUp h low n = record { waits = refl; not_up = λ x e. n x refl }
-after g ClientClosed f k h low n = record { waits = refl; not_up = λ x e. never e }
-after g other f k h low n = ended_gone f k h.net.wishes.ends (goes_on other k h) (goes other f k h low n)
+pub unleft : (f : Bool) (k : Link) (p : Phase) → Unleft f k → LeavesThere f k p
+unleft f k p n x y = absurd (true≢false (sym y ∙ n x))
 
-pub next_gone : (g : Setup) (e : EventName) (f : Bool) (k : Link) (bs : List Handler) (h : HostState) → (is_http_event e ≡ true → k ≡ Absent) → (f ≡ false → event_unlinked e ≡ true → is_up k ≡ false) → Gone f k (next_body g e f k bs h).phase
-next_gone g e f k [] h low n = after g e f k h low n
-next_gone g e f k (b ∷ bs) h low n = record { waits = refl; not_up = n }
+pub record Stands (f : Bool) (k : Link) (q : Place) : Type 0 where
+  pub waits : awaits q.phase ≡ false
+  pub event : EventIs q.phase q.host
+  pub told : ToldOf k q.host
+  pub left : LeavesThere f k q.phase
 
-pub enter_gone : (g : Setup) (e : EventName) (f : Bool) (k : Link) (h : HostState) → (is_http_event e ≡ true → k ≡ Absent) → (event_unlinked e ≡ true → is_up k ≡ false) → Gone f k (enter g e k h).phase
-enter_gone g e f k h low n = by_bodies (g.handlers e)
+-- between events
+pub calm : (f : Bool) (k : Link) (p : Phase) (h : HostState) → is_calm p ≡ true → ToldOf k h → Unleft f k → Stands f k (place p h)
+calm f k p h c t n = record { waits = calm_waits p c; event = calm_event p h c; told = t; left = unleft f k p n }
+
+pub client_goes : (g : Setup) (f : Bool) (k : Link) (h : HostState) → f ≡ true → Stands f k (closed_client g k h)
+client_goes g f k h over = by_bodies (g.handlers ClientClosed)
   where
-    by_bodies : (bs : List Handler) → Gone f k (entered g e k bs (begun e k h)).phase
-    by_bodies [] = let a = after g e false k (begun e k h) low (λ x. n) in record { waits = a.waits; not_up = λ x. a.not_up refl }
-    by_bodies (b ∷ bs) = record { waits = refl; not_up = λ x. n }
+    by_bodies : (bs : List Handler) → Stands f k (bodies_left ClientClosed bs (begun ClientClosed k h) (place Draining (begun ClientClosed k h)))
+    by_bodies [] = record { waits = refl; event = tt; told = λ r. r; left = λ x y. absurd (true≢false (sym over ∙ x)) }
+    by_bodies (b ∷ bs) = record { waits = refl; event = refl; told = λ r. r; left = λ x y. absurd (true≢false (sym over ∙ x)) }
 
-pub closed_waits : (g : Setup) (k : Link) (h : HostState) → awaits (closed g k h).phase ≡ false
-closed_waits g k h = by_link k
+pub closed_goes : (g : Setup) (k : Link) (h : HostState) → Stands true k (closed g k h)
+closed_goes g Absent h = client_goes g true Absent h refl
+closed_goes g Asked h = by_bodies Asked (g.handlers ServerClosed)
   where
-    by_bodies : (link : Link) (bs : List Handler) → awaits (bodies_left ServerClosed bs (begun ServerClosed link h) (closed_client g link h)).phase ≡ false
-    by_bodies link [] = (client_gone g link h true).waits
-    by_bodies link (b ∷ bs) = refl
+    by_bodies : (k : Link) (bs : List Handler) → Stands true k (bodies_left ServerClosed bs (begun ServerClosed k h) (closed_client g k h))
+    by_bodies k [] = client_goes g true k h refl
+    by_bodies k (b ∷ bs) = record { waits = refl; event = refl; told = λ r. r; left = λ x y. refl }
+closed_goes g Up h = by_bodies Up (g.handlers ServerClosed)
+  where
+    by_bodies : (k : Link) (bs : List Handler) → Stands true k (bodies_left ServerClosed bs (begun ServerClosed k h) (closed_client g k h))
+    by_bodies k [] = client_goes g true k h refl
+    by_bodies k (b ∷ bs) = record { waits = refl; event = refl; told = λ r. r; left = λ x y. refl }
+closed_goes g (Left b) h = client_goes g true (Left b) h refl
+closed_goes g GivenUp h = client_goes g true GivenUp h refl
 
-    by_link : (link : Link) → awaits (closed g link h).phase ≡ false
-    by_link Absent = (client_gone g Absent h true).waits
-    by_link Asked = by_bodies Asked (g.handlers ServerClosed)
-    by_link Up = by_bodies Up (g.handlers ServerClosed)
-    by_link (Left b) = (client_gone g (Left b) h true).waits
-    by_link GivenUp = (client_gone g GivenUp h true).waits
+server_goes : (g : Setup) (f : Bool) (k : Link) (h : HostState) → ToldOf k h → Stands f k (after_event g ServerClosed f k h)
+server_goes g true k h t = client_goes g true k h refl
+server_goes g false (Left b) h t = record { waits = refl; event = tt; told = t; left = λ x y. refl }
+server_goes g false Absent h t = calm false Absent Choosing h refl t (λ x. refl)
+server_goes g false Asked h t = calm false Asked Choosing h refl t (λ x. refl)
+server_goes g false Up h t = calm false Up Choosing h refl t (λ x. refl)
+server_goes g false GivenUp h t = calm false GivenUp Choosing h refl t (λ x. refl)
 
--- where a trace begins no answer is awaited
-pub enter_waits : (g : Setup) (e : EventName) (k : Link) (h : HostState) → (is_http_event e ≡ true → k ≡ Absent) → is_up k ≡ false → awaits (enter g e k h).phase ≡ false
-enter_waits g e k h low n = (enter_gone g e false k h low (λ x. n)).waits
+after : (g : Setup) (e : EventName) (f : Bool) (k : Link) (h : HostState) → ToldOf k h → (f ≡ false → is_leaving k ≡ true → leaves_in e ≡ true) → Stands f k (after_event g e f k h)
+after g ServerClosed f k h t n = server_goes g f k h t
+after g ClientClosed f k h t n = record { waits = refl; event = tt; told = t; left = λ x y. never (n x y) }
+after g other f k h t n =
+    let c = ended_calm h.net.wishes.ends (goes_on other k h) (goes_calm other k h) in
+    record { waits = calm_waits _ c; event = calm_event _ h c; told = t; left = λ x y. never (n x y) }
+
+pub next_goes : (g : Setup) (e : EventName) (f : Bool) (k : Link) (bs : List Handler) (h : HostState) → h.event ≡ e → ToldOf k h → (f ≡ false → is_leaving k ≡ true → leaves_in e ≡ true) → Stands f k (next_body g e f k bs h)
+next_goes g e f k [] h is t n = after g e f k h t n
+next_goes g e f k (b ∷ bs) h is t n = record { waits = refl; event = is; told = t; left = n }
+
+pub fault_goes : (g : Setup) (e : EventName) (f : Bool) (k : Link) (kind : FaultKind) (bs : List Handler) (h : HostState) → h.event ≡ e → ToldOf k h → (f ≡ false → is_leaving k ≡ true → leaves_in e ≡ true) → Stands f k (after_fault g e f k kind bs h)
+fault_goes g e f k kind bs h is t n = by_closing (is_closing e) refl
+  where
+    open_event : (e : EventName) → is_closing e ≡ false → leaves_in e ≡ false
+    open_event ServerClosed c = absurd (true≢false c)
+    open_event other c = refl
+
+    by_closing : (b : Bool) → is_closing e ≡ b → Stands f k (if b then next_body g e f k bs h else place (Finishing (Tcl kind)) h)
+    by_closing true c = next_goes g e f k bs h is t n
+    by_closing false c = record { waits = refl; event = tt; told = t; left = λ x y. absurd (true≢false (sym (n x y) ∙ open_event e c)) }
+
+pub body_goes : (g : Setup) (e : EventName) (f : Bool) (k : Link) (b : Handler) (bs : List Handler) (fault : Option TclFault) (h : HostState) → h.event ≡ e → ToldOf k h → (f ≡ false → is_leaving k ≡ true → leaves_in e ≡ true) → Stands f k (after_body g e f k b bs fault h)
+body_goes g e f k b bs None h is t n = next_goes g e f k bs h is t n
+body_goes g e f k b bs (Some fault) h is t n = record { waits = refl; event = is; told = t; left = n }
+
+pub enter_goes : (g : Setup) (e : EventName) (f : Bool) (k : Link) (h : HostState) → is_leaving k ≡ false → Stands f k (enter g e k h)
+enter_goes g e f k h n = by_bodies (g.handlers e)
+  where
+    by_bodies : (bs : List Handler) → Stands f k (entered g e k bs (begun e k h))
+    by_bodies [] = (
+        let a = after g e false k (begun e k h) (λ r. r) (λ x y. absurd (true≢false (sym y ∙ n))) in
+        record { waits = a.waits; event = a.event; told = a.told; left = λ x y. absurd (true≢false (sym y ∙ n)) }
+        )
+    by_bodies (b ∷ bs) = record { waits = refl; event = refl; told = λ r. r; left = λ x y. absurd (true≢false (sym y ∙ n)) }
+
+pub giving_goes : (g : Setup) (f : Bool) (b : Behind) (h : HostState) → Stands f (Left b) (giving_up g b h)
+giving_goes g f b h = by_bodies (g.handlers ServerClosed)
+  where
+    by_bodies : (bs : List Handler) → Stands f (Left b) (bodies_left ServerClosed bs (begun ServerClosed (Left b) h) (place (Retiring b) (begun ServerClosed (Left b) h)))
+    by_bodies [] = record { waits = refl; event = tt; told = λ r. r; left = λ x y. refl }
+    by_bodies (x ∷ xs) = record { waits = refl; event = refl; told = λ r. r; left = λ x y. refl }

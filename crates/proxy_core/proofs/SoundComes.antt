@@ -1,5 +1,5 @@
 -- What bytes, ends, resets and connect answers owe: their own connection.
-use Rattle.std.proofs.Common.{◌≡◌, refl, sym, ap, subst, ◌∙◌, ℕ, ◌≤◌, List, [], ◌∷◌, ◌++◌, length, map, Bool, true, false, ◌||◌, ◌&&◌, not, Option, Some, None, nat_eq, arith, append-nil, append_assoc, if◌then◌else◌, ◌⊎◌, inl, inr, eqb-true}
+use Rattle.std.proofs.Common.{◌≡◌, refl, sym, ap, subst, ◌∙◌, ℕ, ◌+◌, ◌≤◌, List, [], ◌∷◌, ◌++◌, length, map, Bool, true, false, ◌||◌, ◌&&◌, not, Option, Some, None, nat_eq, arith, append-nil, append_assoc, if◌then◌else◌, ◌⊎◌, inl, inr, eqb-true}
 use Rattle.std.specs.Prelude.{is_some}
 use Rattle.std.specs.List.{IsDistinct, filter, list_any}
 use Rattle.std.proofs.lemmas.Grind.{flat_map-append}
@@ -8,7 +8,7 @@ use Rattle.px_bytes.specs.declared.addr.Side.TheVariants.{Client, Server}
 use Rattle.core_events.specs.declared.edges.Edges.{Edges}
 use Rattle.core_events.specs.declared.note.Note.{Note}
 use Rattle.core_events.specs.declared.note.Note.TheVariants.{Ended}
-use Rattle.core_events.specs.Edges.{edge_of, edges_noted}
+use Rattle.core_events.specs.Edges.{edge_of, edges_noted, is_connecting}
 use Rattle.conn_trace.specs.Further.{Further, Same, longer, first_cut, replies_only, nothing_further}
 use Rattle.conn_trace.specs.Further as further
 use Rattle.conn_trace.specs.Gates.{Counts, TakenCounts, no_bytes, sent_from, to_take, untaken}
@@ -27,7 +27,7 @@ use Rattle.conn_trace.proofs.Longer.{next_same}
 use Rattle.conn_trace.proofs.Stepping.{finishes_once}
 use Rattle.conn_trace.proofs.Taking.{met_more}
 use Rattle.conn.specs.Calls.{unless_finished}
-use Rattle.conn.specs.Settling.{is_drained, is_over, is_there, settling, settling_at, took_all, given_up_at, server_notes}
+use Rattle.conn.specs.Settling.{is_drained, is_over, is_given_up, is_there, settling, settling_at, took_all, given_up_at, server_notes}
 use Rattle.proxy_core.specs.Calls.{calls_of, is_any}
 use Rattle.record_model.specs.History.{called_in, entries_in}
 use Rattle.proxy_core.specs.Live.{further_in}
@@ -37,16 +37,17 @@ use Rattle.proxy_core.specs.Ready.{is_in}
 use Rattle.record_model.specs.Refusal.{answers_nothing}
 use Rattle.proxy_core.specs.Scheduler.{State, entries, Seen, seen, seen_after, untaken_all, untaken_of}
 use Rattle.record_model.specs.Setup.{begins_at, setup_in, setup_of, stand_of}
-use Rattle.proxy_core.specs.Shown.{shows, closes, ends_it, causes_told, causes_behind}
-use Rattle.proxy_core.specs.Sound.{is_closed, TookWithin, EndsClosed, EndsTold, Spot, CallsTold, Served}
+use Rattle.proxy_core.specs.Shown.{shows, closes_for_good, ends_it, causes_told, causes_behind}
+use Rattle.proxy_core.specs.Servers.{closed_servers, draining, draining_by, given_up}
+use Rattle.proxy_core.specs.Sound.{ClosedWhere, is_closed, TookWithin, EndsClosed, EndsTold, Spot, CallsTold, Served}
 use Rattle.run_config.specs.declared.config.Config.{Config}
 use Rattle.proxy_core.proofs.CameAt.{UncutOr, heard_uncut, stands_come}
-use Rattle.proxy_core.proofs.Closings.{EndsBy, any_on, none_on, met_closed, settling_at_ends, settling_closed, settling_gone, settling_opens}
+use Rattle.proxy_core.proofs.Closings.{EndsBy, any_on, closes_at, none_on, met_closed, settling_at_ends, settling_closed, settling_gone, settling_opens}
 use Rattle.proxy_core.proofs.EdgeNotes.{edges_come}
 use Rattle.proxy_core.proofs.Ending.{over_has_finished}
 use Rattle.proxy_core.proofs.Entries.{entries_without_self, rest_of, woken_of, entries_woken_self}
 use Rattle.proxy_core.proofs.Finished.{heard_finish, trace_finished}
-use Rattle.proxy_core.proofs.GroupNotes.{AreDue, tells_all, due_about, due_failure, due_finish, due_quiet, due_entries, settling_due, ended_settling_at, called_on}
+use Rattle.proxy_core.proofs.GroupNotes.{AreDue, tells_all, due_about, due_failure, due_finish, due_quiet, due_entries, settling_due, ended_settling_at, called_on, due_asks}
 use Rattle.proxy_core.proofs.Hearing.{come_told, come_takes}
 use Rattle.proxy_core.proofs.Meeting.{come_further}
 use Rattle.proxy_core.proofs.Members.{not_in_without}
@@ -56,9 +57,11 @@ use Rattle.proxy_core.proofs.Overs.{over_at, over_stays}
 use Rattle.proxy_core.proofs.Standing.{longer_pays, sent_at, served_at}
 use Rattle.proxy_core.proofs.Sums.{causes_due, shown_due}
 use Rattle.proxy_core.proofs.SoundAccepts.{or_false}
-use Rattle.proxy_core.proofs.PlainServers.{plain_given}
-use Rattle.proxy_core.proofs.ServerLaws.{unserved_longer}
-use Rattle.proxy_core.proofs.ServerLeft.{unserved_at}
+use Rattle.proxy_core.proofs.Linking.{closed_joined}
+use Rattle.proxy_core.proofs.ServerLaws.{ordered_longer}
+use Rattle.proxy_core.proofs.ServerLeft.{ordered_at}
+use Rattle.conn_trace.proofs.Streams.{link_same}
+use Rattle.proxy_core.proofs.LateServers.{come_late}
 
 -- Comes
 pub ring_came : (over : Bool) (c : ℕ) (old : State) → entries c (came c over old).ring ≡ (if over then rest_of (entries c old.ring) else woken_of (is_any (calls_of c old.queue)) c (entries c old.ring))
@@ -156,6 +159,28 @@ side_less : (sent : Counts) (took more : TakenCounts) (side : Side) → TakesMor
 side_less sent took more Client m e = take_less sent.client took.client more.client m.client e
 side_less sent took more Server m e = take_less sent.server _ _ (m.servers sent.number) e
 
+-- where an end may be closed
+abbrev pub ClosedBy : Side → Setup → TraceState → Type 0
+ClosedBy Client g at = (next_item g at ≡ Over) × (at.finished ≡ true)
+ClosedBy Server g at = ((next_item g at ≡ Over) × (at.finished ≡ true)) ⊎ (given_up_at at ≡ true)
+
+pub over_closed : (side : Side) (g : Setup) (at : TraceState) → next_item g at ≡ Over → at.finished ≡ true → ClosedBy side g at
+over_closed Client g at o f = (o, f)
+over_closed Server g at o f = inl (o, f)
+
+pub closed_by : (g : Setup) (at : TraceState) (e : Edges) → ClosedWhere g at e → (side : Side) → is_closed (edge_of side e).state ≡ true → ClosedBy side g at
+closed_by g at e k Client q = k.client q
+closed_by g at e k Server q = k.server q
+
+-- by what is due
+pub due_closed : (side : Side) (g : Setup) (at : TraceState) → closes_at side (is_over (next_item g at)) (given_up_at at) ≡ true → (is_over (next_item g at) ≡ true → at.finished ≡ true) → ClosedBy side g at
+due_closed Client g at e f = (over_at (next_item g at) e, f e)
+due_closed Server g at e f = by_over (is_over (next_item g at)) refl e
+  where
+    by_over : (b : Bool) → is_over (next_item g at) ≡ b → (b || given_up_at at) ≡ true → ClosedBy Server g at
+    by_over true o q = inl (over_at (next_item g at) o, f o)
+    by_over false o q = inr q
+
 -- an end that is closed took all
 abbrev TookEach : Heard → List Item → Type 0
 TookEach h place = (side : Side) → is_closed (edge_of side h.edges).state ≡ true → untaken_of h place side ≡ 0
@@ -194,11 +219,11 @@ or_none false b e = refl
 
 -- the ends of one that was live, by its notes
 pub ends_told : (c : ℕ) (z z' : Seen) (group : List Note) (over : Bool) → EndsTold c z → z.live ≡ true → z'.heard.notes ≡ z.heard.notes ++ group → z'.live ≡ not over → EndsBy c (untaken_all z'.heard z'.place) over group
-    → (over ≡ true → (is_there z'.heard.edges.client.state ≡ false) × (is_there z'.heard.edges.server.state ≡ false)) → (z.heard.finished ≡ true → z'.heard.finished ≡ true) → (list_any closes group ≡ true → z'.heard.finished ≡ true) → (z'.heard.failed ≡ false → TookEach z'.heard z'.place) → EndsTold c z'
+    → (over ≡ true → (is_there z'.heard.edges.client.state ≡ false) × (is_there z'.heard.edges.server.state ≡ false)) → (z.heard.finished ≡ true → z'.heard.finished ≡ true) → (list_any closes_for_good group ≡ true → z'.heard.finished ≡ true) → (z'.heard.failed ≡ false → TookEach z'.heard z'.place) → EndsTold c z'
 ends_told c z z' group over k live notes now by gone finished closed took = record {
   while_live = λ e. ap (list_any ends_it) notes ∙ none_on ends_it z.heard.notes group (k.while_live live) ∙ by.going (not_over over (sym now ∙ e));
   over = λ e. ended (is_ended over (sym now ∙ e));
-  closed_has_finished = λ e. by_closed (or_split (list_any closes z.heard.notes) (list_any closes group) (sym (any_on closes z.heard.notes group) ∙ ap (list_any closes) (sym notes) ∙ e));
+  closed_has_finished = λ e. by_closed (or_split (list_any closes_for_good z.heard.notes) (list_any closes_for_good group) (sym (any_on closes_for_good z.heard.notes group) ∙ ap (list_any closes_for_good) (sym notes) ∙ e));
   client_took_all = λ f e. took f Client e;
   server_took_all = λ f e. took f Server e;
 }
@@ -215,7 +240,7 @@ ends_told c z z' group over k live notes now by gone finished closed took = reco
           server = g.1;
         }
 
-    by_closed : (list_any closes z.heard.notes ≡ true) ⊎ (list_any closes group ≡ true) → z'.heard.finished ≡ true
+    by_closed : (list_any closes_for_good z.heard.notes ≡ true) ⊎ (list_any closes_for_good group ≡ true) → z'.heard.finished ≡ true
     by_closed (inl e) = finished (k.closed_has_finished e)
     by_closed (inr e) = closed e
 
@@ -225,13 +250,31 @@ ended_if false c live d e = e
 
 -- an end that is closed then
 pub record ClosedNow (g : Setup) (at : TraceState) (h : Heard) (place : List Item) (side : Side) : Type 0 where
-  pub next : next_item g at ≡ Over
-  pub finished : at.finished ≡ true
+  pub there : ClosedBy side g at
   pub none : untaken_of h place side ≡ 0
+
+pub closed_where : (g : Setup) (at : TraceState) (h : Heard) (place : List Item) → ((side : Side) → is_closed (edge_of side h.edges).state ≡ true → ClosedNow g at h place side) → ClosedWhere g at h.edges
+closed_where g at h place now = record { client = λ e. (now Client e).there; server = λ e. (now Server e).there }
 
 pub either : {A B R T : Type 0} → (A × B) ⊎ R → (A → B → T) → (R → T) → T
 either (inl q) f g = f q.0 q.1
 either (inr q) f g = g q
+
+-- where it stands on more the same drains
+pub longer_drains : (took : TakenCounts) (f : Further) (l : TraceState) → draining took (longer f l) ≡ draining took l
+longer_drains took f l = ap (λ k. draining_by (is_given_up k) (nat_eq (to_take l.sent took Server) 0)) (link_same f l)
+
+-- as many are closed as were given up and took all
+pub come_drains : (notes group all : List Note) (before behind given : ℕ) → all ≡ notes ++ group → closed_servers group + behind ≡ before → closed_servers notes + before ≡ given → closed_servers all + behind ≡ given
+come_drains notes group all before behind given is k e =
+    let a = ap closed_servers is in
+    let b = closed_joined notes group in
+    omega (arith, a, b, k, e)
+
+pub closed_stays : (g : Setup) (l : TraceState) (f : Further) (side : Side) → ClosedBy side g l → ClosedBy side g (longer f l)
+closed_stays g l f Client o = (over_stays g l f o.1 o.0, o.1)
+closed_stays g l f Server (inl o) = inl (over_stays g l f o.1 o.0, o.1)
+closed_stays g l f Server (inr given) = inr (ap is_given_up (link_same f l) ∙ given)
 
 pub come_served : (C : Config) (past : Past) (c : ℕ) (input : Input) (group : List Note) (over : Bool) (old : State) → IsDistinct nat_eq (shared past).live → MayCome C c input (seen past old c) → (heard c past).failed ≡ false
     → group ≡ settling_at (setup_of C (heard c past)) (taken (hears c (heard c past) (Comes c input) group)) (longer (further_of c (heard c past) (Comes c input) group) (stand_of C (heard c past) (old.places c))) c (edges_met input (heard c past).edges) (untaken_all (hears c (heard c past) (Comes c input) group) (old.places c))
@@ -250,7 +293,6 @@ come_served C past c input group over old distinct m found is drained =
     let took = taken h' in
     let d = untaken_all h' z.place in
     let e = edges_met input h.edges in
-    let p = plain_given at (unserved_longer f l (unserved_at g h z.place l k.own k.stands)) in
     let due : AreDue c group = (let D : List Note → Type 0 = λ ns. AreDue c ns in subst D (sym is) (settling_due (is_over (next_item g at)) (given_up_at at) c e (took_all at took Server) (took_all at took Client) d)) in
     let about = due_about c group due in
     let t = come_told c h input group about in
@@ -276,12 +318,16 @@ come_served C past c input group over old distinct m found is drained =
     let sent = sent_at g h' z.place at stands in
     let opens = over_then C c z h' f k same uncut (quiet.cut _) stands in
     let now : (side : Side) → is_closed (edge_of side h'.edges).state ≡ true → ClosedNow g at h' z.place side = λ side q. either
-    (settling_closed g took at p c e e d side (let Q : Edges → Type 0 = λ x. is_closed (edge_of side x).state ≡ true in subst Q edges q))
-    (λ o p. record { next = over_at (next_item g at) o; finished = same ∙ opens (over_at (next_item g at) o); none = ap (λ s. to_take s took side) (sym sent) ∙ eqb-true (to_take at.sent took side) 0 p })
-    (λ w. (let b = met_closed input h.edges side w in let o = k.closed_over found side b in record { next = over_stays g l f o.1 o.0; finished = o.1; none = side_less (sent_from no_bytes z.place) (taken h) took side more (took_each c z k.ends found side b) })) in
+    (settling_closed g took at c e e d side (let Q : Edges → Type 0 = λ x. is_closed (edge_of side x).state ≡ true in subst Q edges q))
+    (λ o p. record { there = due_closed side g at o (λ v. same ∙ opens (over_at (next_item g at) v)); none = ap (λ s. to_take s took side) (sym sent) ∙ eqb-true (to_take at.sent took side) 0 p })
+    (λ w. (let b = met_closed input h.edges side w in record { there = closed_stays g l f side (closed_by g l h.edges (k.closed_over found) side b); none = side_less (sent_from no_bytes z.place) (taken h) took side more (took_each c z k.ends found side b) })) in
     let finished : h'.finished ≡ h.finished = t.finished ∙ ap (λ b. h.finished || b) (due_finish c group due) ∙ or_false h.finished in
     let goes : h.finished ≡ false → is_over (next_item g at) ≡ false = λ x. unless (is_over (next_item g at)) (λ o. (let y = sym (opens (over_at (next_item g at) o)) ∙ x in cc)) in
-    let state : h.finished ≡ false → h'.edges.server.state ≡ e.server.state = λ x. ap (λ y. y.server.state) edges ∙ ap (λ b. (edges_noted (settling b (given_up_at at) c e (took_all at took Server) (took_all at took Client) d) e).server.state) (goes x) ∙ ap (λ y. (edges_noted (server_notes c (y && took_all at took Server) e) e).server.state) p in
+    let due_group : h.finished ≡ false → group ≡ server_notes c (given_up_at at && took_all at took Server) e = λ x. is ∙ ap (λ b. settling b (given_up_at at) c e (took_all at took Server) (took_all at took Client) d) (goes x) in
+    let un = ordered_at g h z.place l k.stands in
+    let less : to_take l.sent (taken h) Server ≡ 0 → to_take l.sent took Server ≡ 0 = side_less l.sent (taken h) took Server more in
+    let came_linked = come_linked h.finished h'.finished (taken h) took input f l c group h.edges h'.edges (come_further c h input group quiet going) finished m.asked (ordered_longer f l un).going.asked less due_group
+    (λ x. ap (λ y. y.server.state) (edges_come c h input group about)) (longer_drains (taken h) f l) k.linked in
     let by : EndsBy c d over group = (let E : Bool → Type 0 = λ b. EndsBy c d b group in let N : List Note → Type 0 = λ ns. EndsBy c d (is_drained g took at) ns in subst E (sym drained) (subst N (sym is) (settling_at_ends g took at c e d))) in
     served_at C c z' g at (ap (setup_in C) t.accepted) (record {
       stands = stands;
@@ -291,13 +337,15 @@ come_served C past c input group over old distinct m found is drained =
       shown = ap (filter shows) t.notes ∙ shown_due c h.notes group (notes_of c z.place) due k.shown;
       causes = ap causes_told t.notes ∙ causes_due c h.notes group (map cause_of (reasons_in z.place) ++ causes_behind h.failed) due k.causes ∙ ap (λ b. map cause_of (reasons_in z.place) ++ causes_behind b) (sym failed);
       ends = ends_told c z z' group over k.ends m.live t.notes live by
-          (λ o. (let x = settling_gone g took at p c e d (sym drained ∙ o) in (ap (λ y. is_there y.client.state) edges ∙ x.client, ap (λ y. is_there y.server.state) edges ∙ x.server)))
+          (λ o. (let x = settling_gone g took at c e d (sym drained ∙ o) in (ap (λ y. is_there y.client.state) edges ∙ x.client, ap (λ y. is_there y.server.state) edges ∙ x.server)))
           (λ o. t.finished ∙ or_first h.finished (finish_told (map tells group)) o)
-          (λ o. t.finished ∙ or_first h.finished (finish_told (map tells group)) (opens (over_at (next_item g at) (settling_opens (is_over (next_item g at)) (given_up_at at) p c e (took_all at took Server) (took_all at took Client) d (ap (list_any closes) (sym is) ∙ o)))))
+          (λ o. t.finished ∙ or_first h.finished (finish_told (map tells group)) (opens (over_at (next_item g at) (settling_opens (is_over (next_item g at)) (given_up_at at) c e (took_all at took Server) (took_all at took Client) d (ap (list_any closes_for_good) (sym is) ∙ o)))))
           (λ x side q. (now side q).none);
-      closed_over = λ x side q. ((now side q).next, (now side q).finished);
-      linked = come_linked h.finished h'.finished input f l h.edges h'.edges (come_further c h input group quiet going) finished m.asked state k.linked;
-      own = k.own;
+      closed_over = λ x. closed_where g at h' z.place now;
+      linked = came_linked.linked;
+      late = come_late c h input group f l h'.edges.server.state (t.finished ∙ ap (λ ts. h.finished || finish_told ts) (sym (tells_all c group about))) (come_further c h input group quiet going ∙ ap (λ b. unless_finished b (further_in input)) (sym (or_false h.finished) ∙ ap (λ b. h.finished || b) (sym going))) m.asked
+          (λ x. due_asks c (settling_at g took at c e d) (settling_due (is_over (next_item g at)) (given_up_at at) c e (took_all at took Server) (took_all at took Client) d) e (sym (ap (λ y. is_connecting y.server.state) edges) ∙ x)) k.late;
+      drains = λ x. come_drains h.notes group h'.notes (draining (taken h) l) (draining took at) (given_up z.place) t.notes (came_linked.drains x) (k.drains (sym finished ∙ x));
       licensed = come_licensed c h input group uncut quiet.cut k.licensed;
       told = subst K (sym t.notes) (calls_on h.failed h'.failed z.asked z'.asked z.place h.notes group k.told (due_entries c group due) (λ x. (sym failed ∙ x, refl)));
       spot = subst F (sym (failed ∙ found)) (subst L (sym live) (subst R (sym ready) spot));

@@ -44,6 +44,9 @@ use Rattle.proxy_core.proofs.Standing.{longer_pays, served_at}
 use Rattle.proxy_core.proofs.Sums.{causes_due, causes_on, finish_of_causes, shown_due, shown_on}
 use Rattle.proxy_core.proofs.SoundAccepts.{or_false}
 use Rattle.proxy_core.proofs.SoundComes.{ring_came, calls_on, MayCome, or_true, or_first, ends_told}
+use Rattle.proxy_core.proofs.EdgeNotes.{edges_come}
+use Rattle.proxy_core.proofs.LateServers.{come_late}
+use Rattle.core_events.specs.Edges.{is_connecting}
 
 -- one that found no memory has finished
 some_last : (cs : List Cause) → further.is_some_of (cs ++ Memory ∷ []) ≡ true
@@ -99,9 +102,11 @@ failed_comes C past c input old m has_failed =
       shown = ap (filter shows) t.notes ∙ shown_due c h.notes [] (notes_of c z.place) tt k.shown;
       causes = ap causes_told t.notes ∙ causes_due c h.notes [] (map cause_of (reasons_in z.place) ++ causes_behind h.failed) tt k.causes ∙ ap (λ b. map cause_of (reasons_in z.place) ++ causes_behind b) (sym same);
       ends = ends_told c z z' [] false k.ends m.live t.notes m.live (none_ends c (untaken_all h' z.place)) (λ o. absurd (let x : false ≡ true = o in cc)) (λ o. t.finished ∙ or_first h.finished (finish_told (map tells [])) o) (λ o. absurd (let x : false ≡ true = o in cc)) (λ x side q. absurd (let y : true ≡ false = sym failed ∙ x in cc));
-      closed_over = λ x side q. absurd (let y : true ≡ false = sym failed ∙ x in cc);
-      linked = linked_over h.finished h'.finished at h.edges.server.state h'.edges.server.state (t.finished ∙ or_first h.finished (finish_told (map tells [])) finished) (longer_linked h.finished f l h.edges.server.state none k.linked);
-      own = k.own;
+      closed_over = λ x. absurd (let y : true ≡ false = sym failed ∙ x in cc);
+      linked = linked_over h.finished h'.finished (taken h) took at h.edges.server.state h'.edges.server.state (t.finished ∙ or_first h.finished (finish_told (map tells [])) finished) (longer_linked h.finished (taken h) f l h.edges.server.state none k.linked);
+      late = come_late c h input [] f l h'.edges.server.state (t.finished ∙ ap (λ ts. h.finished || finish_told ts) (sym (tells_all c [] tt))) (come_further c h input [] quiet going ∙ ap (λ b. unless_finished b (further_in input)) (sym (or_false h.finished) ∙ ap (λ b. h.finished || b) (sym going))) m.asked
+          (λ x. sym (ap (λ y. is_connecting y.server.state) (edges_come c h input [] tt)) ∙ x) k.late;
+      drains = λ x. absurd (let y : true ≡ false = sym (t.finished ∙ or_first h.finished (finish_told (map tells [])) finished) ∙ x in cc);
       licensed = come_licensed c h input [] (heard_uncut c past) quiet.cut k.licensed;
       told = subst K (sym t.notes) (calls_on h.failed h'.failed z.asked z'.asked z.place h.notes [] k.told refl (λ x. (sym same ∙ x, refl)));
       spot = subst F (sym failed) (subst L (sym m.live) (subst R (sym ready) spot));
@@ -162,9 +167,11 @@ lack_served C past c input old m found =
       shown = ap (filter shows) t.notes ∙ shown_on h.notes group ∙ append-nil (filter shows h.notes) ∙ k.shown;
       causes = ap causes_told t.notes ∙ causes_on h.notes group ∙ ap (λ x. x ++ Memory ∷ []) (k.causes ∙ ap (λ b. causes ++ causes_behind b) found ∙ append-nil causes) ∙ ap (λ b. causes ++ causes_behind b) (sym failed);
       ends = ends_told c z z' group false k.ends m.live t.notes m.live (record { going = λ n. refl; last = λ o. absurd (let x : false ≡ true = o in cc) }) (λ o. absurd (let x : false ≡ true = o in cc)) (λ o. finished) (λ o. finished) (λ x side q. absurd (let y : true ≡ false = sym failed ∙ x in cc));
-      closed_over = λ x side q. absurd (let y : true ≡ false = sym failed ∙ x in cc);
-      linked = linked_over h.finished h'.finished at h.edges.server.state h'.edges.server.state finished (longer_linked h.finished nothing_further l h.edges.server.state refl k.linked);
-      own = k.own;
+      closed_over = λ x. absurd (let y : true ≡ false = sym failed ∙ x in cc);
+      linked = linked_over h.finished h'.finished (taken h) took at h.edges.server.state h'.edges.server.state finished (longer_linked h.finished (taken h) nothing_further l h.edges.server.state refl k.linked);
+      late = come_late c h input group nothing_further l h'.edges.server.state (t.finished ∙ ap (λ ts. h.finished || finish_told ts) (sym (tells_all c group about))) (ap (λ b. unless_finished b (further_in input)) (sym (or_true h.finished) ∙ ap (λ b. h.finished || b) (sym (ap finish_told (tells_all c group about))))) m.asked
+          (λ x. sym (ap (λ y. is_connecting y.server.state) (edges_come c h input group about)) ∙ x) k.late;
+      drains = λ x. absurd (let y : true ≡ false = sym finished ∙ x in cc);
       licensed = come_licensed c h input group (heard_uncut c past) (quiet_finish c).cut k.licensed;
       told = subst K (sym t.notes) (calls_on h.failed h'.failed z.asked z'.asked z.place h.notes group k.told refl (λ x. absurd (let y : true ≡ false = sym failed ∙ x in cc)));
       spot = subst F (sym failed) (subst L (sym m.live) (subst R (sym ready) (subst A (sym asked) spot)));

@@ -1,5 +1,5 @@
 -- What holds of every state that a past leads to.
-use Rattle.std.proofs.Common.{◌≡◌, refl, sym, ap, subst, ◌∙◌, ℕ, zero, suc, ◌+◌, ◌-◌, ◌≤◌, ◌<◌, List, [], ◌∷◌, ◌++◌, length, Bool, true, false, ◌⊎◌, inl, inr, Some, None, nat_eq, nat_lt, arith, zero-add, if◌then◌else◌}
+use Rattle.std.proofs.Common.{◌≡◌, refl, sym, ap, subst, ◌∙◌, ℕ, zero, suc, ◌+◌, ◌-◌, ◌≤◌, ◌<◌, List, [], ◌∷◌, ◌++◌, length, Bool, true, false, ◌⊎◌, inl, inr, Some, None, nat_eq, nat_lt, arith, zero-add, if◌then◌else◌, ◌&&◌, ◌||◌}
 use Rattle.std.specs.Prelude.{is_none, is_some, not}
 use Rattle.std.specs.Bool.{MatchBool}
 use Rattle.std.specs.List.{IsDistinct}
@@ -8,7 +8,7 @@ use Rattle.px_bytes.specs.declared.addr.Addr.{Addr}
 use Rattle.px_bytes.specs.declared.addr.Side.TheVariants.{Client, Server}
 use Rattle.core_events.specs.declared.note.Cause.TheVariants.{Memory}
 use Rattle.core_events.specs.declared.note.Note.{Note}
-use Rattle.core_events.specs.declared.note.Note.TheVariants.{Finish}
+use Rattle.core_events.specs.declared.note.Note.TheVariants.{Finish, HalfClose}
 use Rattle.conn_trace.specs.Costs.{SlicesPaid}
 use Rattle.conn_trace.specs.Gates.{TakenCounts, no_bytes, untaken}
 use Rattle.conn_trace.specs.HeardLaws.{taken_by_items}
@@ -24,9 +24,10 @@ use Rattle.core_events.specs.declared.input.Input.{Input}
 use Rattle.core_events.specs.declared.input.Input.TheVariants.{Bytes, Ends, Resets, Connects, Takes}
 use Rattle.conn_trace.specs.Heard.{Accepted, Heard, taken, taken_by, event_marks, marks, brought}
 use Rattle.conn_trace.specs.Heard.{edges_met, further_of, hears}
+use Rattle.core_events.specs.declared.edges.Edge.{Edge}
 use Rattle.core_events.specs.declared.edges.Edges.{Edges}
-use Rattle.conn_trace.specs.Item.{Item, client_output, notes_of, server_output}
-use Rattle.conn_trace.specs.State.{link_of, Absent, TraceState}
+use Rattle.conn_trace.specs.Item.{Item, client_output, server_output}
+use Rattle.conn_trace.specs.State.{TraceState}
 use Rattle.conn_trace.specs.Setup.{Setup}
 use Rattle.conn_trace.proofs.Hearing.{others_not_heard}
 use Rattle.px_bytes.specs.declared.fault.Reply.{Reply}
@@ -42,9 +43,12 @@ use Rattle.record_model.specs.Past.{Happened, Past, heard, ended_in, without_all
 use Rattle.proxy_core.specs.Ready.{is_in, ring_behind, without}
 use Rattle.record_model.specs.Refusal.{Row, answers_nothing, by_edges, takes_too_much, refusal_rows, first_of}
 use Rattle.proxy_core.specs.Refusal.{wants_at, standing_by, known, refused}
-use Rattle.proxy_core.specs.Servers.{took_of}
+use Rattle.conn.specs.Servers.{run_notes}
+use Rattle.proxy_core.specs.Servers.{closed_servers, took_of}
 use Rattle.conn.specs.RunsItems.{asked_at, ends, Passes, StopsAt, slices_in, told_behind}
-use Rattle.conn.specs.Settling.{closing, is_drained, is_over, resting, settling_at, took_all, given_up_at}
+use Rattle.conn.specs.Settling.{closing, given_up_at, half_close, is_drained, is_over, is_there, note_if, resting, settling, settling_at, took_all}
+use Rattle.conn_trace.specs.Queries.{half_close_due}
+use Rattle.px_bytes.specs.declared.addr.Side.{Side}
 use Rattle.conn_trace.specs.Item.{calls_in}
 use Rattle.conn.specs.declared.turn.ConnTurn.{ConnTurn}
 use Rattle.conn.specs.declared.turn.ConnTurn.TheVariants as turn
@@ -57,9 +61,9 @@ use Rattle.proxy_core.specs.Others.{about, front}
 use Rattle.proxy_core.proofs.Finished.{heard_finish, stands_orderly, trace_finished}
 use Rattle.proxy_core.proofs.RunOn.{RunStood}
 use Rattle.proxy_core.proofs.Framing.{touches, only_changed, same_seen, each_by}
-use Rattle.proxy_core.proofs.GroupNotes.{About, AreDue, closing_due, due_about, due_choices, due_cut, due_entries, due_failure, due_finish, due_hidden, due_quiet, due_replies, ended_closing, ended_resting, quiet_by, resting_due, settling_due, tells_all}
+use Rattle.proxy_core.proofs.GroupNotes.{About, AreDue, closing_due, due_about, due_choices, due_cut, due_entries, due_failure, due_finish, due_hidden, due_quiet, due_replies, ended_closing, ended_resting, quiet_by, resting_due, settling_due, tells_all, due_asks}
 use Rattle.proxy_core.proofs.CameAt.{heard_uncut, stands_come}
-use Rattle.proxy_core.proofs.Closings.{EndsBy, closing_ends, closing_gone, ends_behind, none_ends, resting_again, resting_closed, resting_ends, resting_gone, resting_opens}
+use Rattle.proxy_core.proofs.Closings.{EndsBy, closing_ends, closing_gone, ends_behind, half_state, halved, none_ends, resting_again, resting_closed, resting_edges, resting_ends, resting_gone, resting_opens, server_edges, shut}
 use Rattle.proxy_core.proofs.Meeting.{hears_took}
 use Rattle.proxy_core.proofs.Sums.{due_causes}
 use Rattle.proxy_core.proofs.Hearing.{Told, come_told, run_told, turn_told}
@@ -69,15 +73,11 @@ use Rattle.proxy_core.proofs.SoundLacks.{lack_served, failed_comes}
 use Rattle.proxy_core.proofs.SoundAccepts.{first_notes, fresh_sound, seen_accept}
 use Rattle.proxy_core.proofs.SoundComes.{MayCome, come_served}
 use Rattle.proxy_core.proofs.SoundTurns.{Answers, turned_to, turn_served}
-use Rattle.proxy_core.proofs.SoundRuns.{Behind, ran_at, run_about, run_served, failed_served}
-use Rattle.proxy_core.proofs.LinkedComes.{closing_closes, due_state}
+use Rattle.proxy_core.proofs.SoundRuns.{Behind, SettledBy, ran_at, run_about, run_served, failed_served}
+use Rattle.proxy_core.proofs.Linking.{closed_joined}
 use Rattle.proxy_core.proofs.ServerCounts.{TookBy, more_of, come_took}
-use Rattle.proxy_core.proofs.ServerLeft.{server_left, unserved_at}
+use Rattle.proxy_core.proofs.ServerLeft.{server_left}
 use Rattle.proxy_core.proofs.Standing.{drained_at, from_served, is_served, is_unseen, more_pays, stands_at}
-use Rattle.proxy_core.proofs.PlainRuns.{runs_noted, out_notes, out_told}
-use Rattle.proxy_core.proofs.PlainServers.{plain_given}
-use Rattle.proxy_core.proofs.ServerLaws.{unserved, unserved_longer}
-use Rattle.proxy_core.proofs.OwnItems.{own_more}
 
 -- no row holds
 abbrev pub NoneHolds : List Row → Type 0
@@ -239,18 +239,53 @@ front_served C past c rest old e s =
     is_served C c z (λ u. let n = sym ready ∙ ap (λ y. y.ready) u in cc) s
 
 -- where the front is put
-spot_ran : (t : ConnTurn) (c d : ℕ) (g : Setup) (took : TakenCounts) (at : TraceState) (e : Edges) → given_up_at at ≡ false → StopsAt g took at t → Spot false (not (ends t)) (ready_behind t c) (asked_behind t) g took at (edges_noted (told_behind t g took at c e d) e)
-spot_ran turn.More c d g took at e p k = tt
-spot_ran (turn.Asks call) c d g took at e p k = k
-spot_ran turn.NotYet c d g took at e p k = record { gives_no_more = k.0; no_cut = k.1.1; not_over = k.1.0; told = λ q n. resting_again g took at p c q e d n k.1.0 }
-spot_ran turn.Over c d g took at e p k = k
+spot_ran : (t : ConnTurn) (c d : ℕ) (g : Setup) (took : TakenCounts) (at : TraceState) (e : Edges) → StopsAt g took at t → Spot false (not (ends t)) (ready_behind t c) (asked_behind t) g took at (edges_noted (told_behind t g took at c e d) e)
+spot_ran turn.More c d g took at e k = tt
+spot_ran (turn.Asks call) c d g took at e k = k
+spot_ran turn.NotYet c d g took at e k = record { gives_no_more = k.0; no_cut = k.1.1; not_over = k.1.0; told = λ q n. resting_again g took at c q e d n k.1.0 }
+spot_ran turn.Over c d g took at e k = k
 
 -- what is told behind the items
 none_behind : (g : Setup) (took : TakenCounts) (at : TraceState) (c d : ℕ) (e : Edges) → Behind g took at c d e [] false false
-none_behind g took at c d e = record { about = tt; quiet = due_quiet c [] tt; failure = refl; ended = refl; hidden = refl; causes = refl; entries = refl; by = none_ends c d; gone = λ o. absurd (let x : false ≡ true = o in cc); opens = λ o. absurd (let x : false ≡ true = o in cc); kept = λ o. refl; closed = λ f side q. inr q }
+none_behind g took at c d e = record { about = tt; quiet = due_quiet c [] tt; failure = refl; ended = refl; hidden = refl; causes = refl; entries = refl; by = none_ends c d; gone = λ o. absurd (let x : false ≡ true = o in cc); asks = λ x. x; server = λ f o. inl (refl, refl); opens = λ o. absurd (let x : false ≡ true = o in cc); closed = λ f side q. inr q }
 
-rest_behind : (g : Setup) (took : TakenCounts) (at : TraceState) → given_up_at at ≡ false → (c d : ℕ) (e : Edges) (over : Bool) → is_drained g took at ≡ over → Behind g took at c d e (resting g took at c e d) false over
-rest_behind g took at p c d e over is =
+-- a half-close closes no server connection
+none_halved : (b : Bool) (c : ℕ) (side : Side) → closed_servers (note_if b (HalfClose c side)) ≡ 0
+none_halved true c side = refl
+none_halved false c side = refl
+
+-- while it isn't over the server's end is closed at a rest as is due of one that is given up
+rest_settled : (g : Setup) (took : TakenCounts) (at : TraceState) (c d : ℕ) (e : Edges) → is_over (next_item g at) ≡ false → SettledBy took at c e (resting g took at c e d)
+rest_settled g took at c d e going =
+    let over = is_over (next_item g at) in
+    let given = given_up_at at in
+    let due = took_all at took Server in
+    let there = is_there e.server.state in
+    let half = half_close_due at took Server && not e.server.half in
+    let last = settling_at g took at c e d in
+    let front = half_close took at c e Client in
+    let next = half_close took at c e Server in
+    let a = closed_joined front (next ++ last) in
+    let b = closed_joined next last in
+    let none = none_halved (half_close_due at took Client && not e.client.half) c Client in
+    let none_server = none_halved half c Server in
+    let is = ap (λ x. closed_servers (settling x given c e due (took_all at took Client) d)) going in
+    inr (
+      ap (λ x. x.server.state) (resting_edges g took at c e e d) ∙ ap (λ x. (shut ((x || given) && (due && there)) (halved half e.server)).state) going ∙ shut_state (given && (due && there)) half e.server ∙ ap (λ b. (shut b e.server).state) (and_join given due there)
+          ∙ sym (ap (λ x. x.server.state) (server_edges ((given && due) && there) c e)),
+      omega (arith, a, b, none, none_server, is),
+    )
+  where
+    shut_state : (b h : Bool) (x : Edge) → (shut b (halved h x)).state ≡ (shut b x).state
+    shut_state true h x = refl
+    shut_state false h x = half_state h x
+
+    and_join : (a b c : Bool) → (a && (b && c)) ≡ ((a && b) && c)
+    and_join true b c = refl
+    and_join false b c = refl
+
+rest_behind : (g : Setup) (took : TakenCounts) (at : TraceState) (c d : ℕ) (e : Edges) (over : Bool) → is_drained g took at ≡ over → Behind g took at c d e (resting g took at c e d) false over
+rest_behind g took at c d e over is =
     let group = resting g took at c e d in
     let due = resting_due g took at c e d in
     let E : Bool → Type 0 = λ b. EndsBy c d b group in
@@ -263,17 +298,18 @@ rest_behind g took at p c d e over is =
       causes = due_causes c group due;
       entries = due_entries c group due;
       by = subst E is (resting_ends g took at c e d);
-      gone = λ o. (let x = resting_gone g took at p c e d (is ∙ o) in (x.client, x.server));
-      opens = λ o. inr (resting_opens g took at p c e d o);
-      kept = λ o. due_state c group due o e;
-      closed = λ f side q. resting_closed g took at p c e e d side q;
+      gone = λ o. (let x = resting_gone g took at c e d (is ∙ o) in (x.client, x.server));
+      asks = due_asks c group due e;
+      server = λ f going. rest_settled g took at c d e going;
+      opens = λ o. inr (resting_opens g took at c e d o);
+      closed = λ f side q. resting_closed g took at c e e d side q;
     }
 
-stop_behind : (t : ConnTurn) (g : Setup) (took : TakenCounts) (at : TraceState) (c d : ℕ) (e : Edges) → given_up_at at ≡ false → StopsAt g took at t → Behind g took at c d e (told_behind t g took at c e d) false (ends t)
-stop_behind turn.More g took at c d e p k = none_behind g took at c d e
-stop_behind (turn.Asks call) g took at c d e p k = none_behind g took at c d e
-stop_behind turn.NotYet g took at c d e p k = rest_behind g took at p c d e false k.1.0
-stop_behind turn.Over g took at c d e p k = rest_behind g took at p c d e true k
+stop_behind : (t : ConnTurn) (g : Setup) (took : TakenCounts) (at : TraceState) (c d : ℕ) (e : Edges) → StopsAt g took at t → Behind g took at c d e (told_behind t g took at c e d) false (ends t)
+stop_behind turn.More g took at c d e k = none_behind g took at c d e
+stop_behind (turn.Asks call) g took at c d e k = none_behind g took at c d e
+stop_behind turn.NotYet g took at c d e k = rest_behind g took at c d e false k.1.0
+stop_behind turn.Over g took at c d e k = rest_behind g took at c d e true k
 
 memory_behind : (g : Setup) (took : TakenCounts) (at : TraceState) (c d : ℕ) (e : Edges) → Behind g took at c d e (Finish c Memory ∷ closing c e d) true true
 memory_behind g took at c d e =
@@ -290,8 +326,9 @@ memory_behind g took at c d e =
       entries = due_entries c last due;
       by = ends_behind c d true (Finish c Memory ∷ []) last refl (closing_ends c e d);
       gone = λ o. (let x = closing_gone c e d in (x.client, x.server));
+      asks = due_asks c last due e;
+      server = λ f o. absurd (let x : true ≡ false = f in cc);
       opens = λ o. inl refl;
-      kept = λ o. absurd (let x : true ≡ false = sym (closing_closes c e d) ∙ o in cc);
       closed = λ f. absurd (let x : true ≡ false = f in cc);
     }
 
@@ -310,17 +347,17 @@ asks_alike turn.Over = refl
 run_sound : (C : Config) (past : Past) (c : ℕ) (rest after ready : List ℕ) (queue : List Asked) (called asked : List (List (List ℕ))) (old : State) (more : List Item) (slices : ℕ) (at : TraceState) (behind : List Note) (fails over : Bool)
     → IsDistinct nat_eq (shared past).live → old.ring ≡ c ∷ rest → (heard c past).failed ≡ false → is_some (heard c past).accepted ≡ true → Served C c (seen past old c)
     → Passes (setup_of C (heard c past)) (taken (heard c past)) (stand_of C (heard c past) (old.places c)) more at
-    → ((setup_of C (heard c past)).http ≡ true → link_of at.server ≡ Absent)
-    → Behind (setup_of C (heard c past)) (taken (heard c past)) at c (untaken_all (heard c past) (old.places c ++ more)) (edges_noted (notes_of c more) (heard c past).edges) behind fails over
+    → Behind (setup_of C (heard c past)) (taken (heard c past)) at c (untaken_all (heard c past) (old.places c ++ more)) (edges_noted (run_notes c (stand_of C (heard c past) (old.places c)).sent (taken (heard c past)) more) (heard c past).edges) behind fails over
     → (entries c rest ≡ [] → entries c after ≡ ready) → (calls_of c old.queue ≡ [] → calls_of c queue ≡ asked) → calls_in more ≡ called → length called ≤ 1 → (fails ≡ false → called ≡ asked)
-    → Spot fails (not over) ready asked (setup_of C (heard c past)) (taken (heard c past)) at (edges_noted behind (edges_noted (notes_of c more) (heard c past).edges))
+    → Spot fails (not over) ready asked (setup_of C (heard c past)) (taken (heard c past)) at (edges_noted behind (edges_noted (run_notes c (stand_of C (heard c past) (old.places c)).sent (taken (heard c past)) more) (heard c past).edges))
     → SlicesPaid (setup_of C (heard c past)) (old.places c ++ more) at (old.spent c + slices)
-    → SoundAt C c (seen_after past Runs (notes_of c more ++ behind) (ran c after queue more slices old) c)
-run_sound C past c rest after ready queue called asked old more slices at behind fails over distinct e f a v p alone b put puts all few opens spot pays =
-    let group = notes_of c more ++ behind in
+    → SoundAt C c (seen_after past Runs (run_notes c (stand_of C (heard c past) (old.places c)).sent (taken (heard c past)) more ++ behind) (ran c after queue more slices old) c)
+run_sound C past c rest after ready queue called asked old more slices at behind fails over distinct e f a v p b put puts all few opens spot pays =
+    let sent = (stand_of C (heard c past) (old.places c)).sent in
+    let group = run_notes c sent (taken (heard c past)) more ++ behind in
     from_served C c (seen_after past Runs group (ran c after queue more slices old) c)
-    (still_accepted c (heard c past) Runs group (run_told c (heard c past) group (run_about c more behind b.about)) a)
-    (run_served C past c rest after ready queue called asked old more slices at behind fails over distinct e f v p alone b put puts all few opens spot pays)
+    (still_accepted c (heard c past) Runs group (run_told c (heard c past) group (run_about c sent (taken (heard c past)) more behind b.about)) a)
+    (run_served C past c rest after ready queue called asked old more slices at behind fails over distinct e f v p b put puts all few opens spot pays)
 
 failed_sound : (C : Config) (past : Past) (c : ℕ) (rest : List ℕ) (old : State) → IsDistinct nat_eq (shared past).live → old.ring ≡ c ∷ rest → (heard c past).failed ≡ true → is_some (heard c past).accepted ≡ true → Served C c (seen past old c)
     → SoundAt C c (seen_after past Runs (closing c (heard c past).edges (untaken_all (heard c past) (old.places c))) (record old { ring = rest }) c)
@@ -352,32 +389,28 @@ own_run C past c rest group old new d e s m = by_failed (heard c past).failed re
     by_failed false f (inl k) =
         let v = front_served C past c rest old e s in
         let left = untaken_all h (old.places c ++ k.more) in
-        let e' = edges_noted (notes_of c k.more) h.edges in
+        let notes = run_notes c (stand_of C h (old.places c)).sent (taken h) k.more in
+        let e' = edges_noted notes h.edges in
         let behind = told_behind k.turn (setup_of C h) (taken h) k.at c e' left in
-        let g = setup_of C h in
-        let l = stand_of C h (old.places c) in
-        let f' = taken_by_items (taken h) k.more in
-        let un = unserved_at g h (old.places c) l v.1.own v.1.stands in
-        let own = own_more g f' l k.at k.more h.finished h.edges.server.state refl un v.1.linked k.items.alone k.items.passes.passed in
-        let kept = plain_given k.at (unserved g (longer f' l) k.at k.more own (unserved_longer f' l un) k.items.passes.passed) in
-        moved (notes_of c k.more ++ behind) (ran c (ring_behind k.turn c rest) (queue_behind k.turn c old.queue) k.more (slices_in k.turn (length group)) old) (runs_noted k.items) k.state
-        (run_sound C past c rest (ring_behind k.turn c rest) (ready_behind k.turn c) (queue_behind k.turn c old.queue) (asked_at k.turn) (asked_behind k.turn) old k.more (slices_in k.turn (length group)) k.at behind false (ends k.turn) d e f v.0 v.1 k.items.passes k.items.alone
-        (stop_behind k.turn (setup_of C h) (taken h) k.at c left e' kept k.items.stops) (entries_behind_self k.turn c rest) (calls_behind_self k.turn c old.queue) k.items.calls (few_asked k.turn) (λ x. asks_alike k.turn) (spot_ran k.turn c left (setup_of C h) (taken h) k.at e' kept k.items.stops) k.paid)
+        moved (notes ++ behind) (ran c (ring_behind k.turn c rest) (queue_behind k.turn c old.queue) k.more (slices_in k.turn (length group)) old) k.items.noted k.state
+        (run_sound C past c rest (ring_behind k.turn c rest) (ready_behind k.turn c) (queue_behind k.turn c old.queue) (asked_at k.turn) (asked_behind k.turn) old k.more (slices_in k.turn (length group)) k.at behind false (ends k.turn) d e f v.0 v.1 k.items.passes
+        (stop_behind k.turn (setup_of C h) (taken h) k.at c left e' k.items.stops) (entries_behind_self k.turn c rest) (calls_behind_self k.turn c old.queue) k.items.calls (few_asked k.turn) (λ x. asks_alike k.turn) (spot_ran k.turn c left (setup_of C h) (taken h) k.at e' k.items.stops) k.paid)
     by_failed false f (inr k) =
         let v = front_served C past c rest old e s in
         let left = untaken_all h (old.places c ++ k.more) in
-        let e' = edges_noted (notes_of c k.more) h.edges in
+        let notes = run_notes c (stand_of C h (old.places c)).sent (taken h) k.more in
+        let e' = edges_noted notes h.edges in
         let kept = more_pays (setup_of C h) (old.places c) k.more (stand_of C h (old.places c)) k.at (taken_by_items (taken h) k.more) (old.spent c) v.1.paid k.passes.passed in
         let unspent : SlicesPaid (setup_of C h) (old.places c ++ k.more) k.at (old.spent c + 0) = omega (arith, kept) in
-        moved (out_notes c h.edges k.more left) (ran c rest old.queue k.more 0 old) (out_told k) k.state
-        (run_sound C past c rest rest [] old.queue [] [] old k.more 0 k.at (Finish c Memory ∷ closing c e' left) true true d e f v.0 v.1 k.passes k.alone (memory_behind (setup_of C h) (taken h) k.at c left e') (λ x. x) (λ x. x) k.no_call (omega arith) (λ x. refl) tt unspent)
+        moved (notes ++ Finish c Memory ∷ closing c e' left) (ran c rest old.queue k.more 0 old) k.notes k.state
+        (run_sound C past c rest rest [] old.queue [] [] old k.more 0 k.at (Finish c Memory ∷ closing c e' left) true true d e f v.0 v.1 k.passes (memory_behind (setup_of C h) (taken h) k.at c left e') (λ x. x) (λ x. x) k.no_call (omega arith) (λ x. refl) tt unspent)
 
 -- where items and what is told behind them lead
 pub ran_on : (C : Config) (past : Past) (s : State) (c : ℕ) → Served C c (seen past s c) → RunStood C c (heard c past) (s.places c)
 ran_on C past s c k found more at behind quiet p =
     let z = seen past s c in
     let h = heard c past in
-    ran_at (setup_of C h) c h (s.places c) more behind (stand_of C h (s.places c)) at (heard_uncut c past) (trace_finished C c z k (heard_finish c past) found) (stands_orderly C c z k) quiet k.met k.stands p.passed
+    ran_at (setup_of C h) c h (stand_of C h (s.places c)).sent (taken h) (s.places c) more behind (stand_of C h (s.places c)) at (heard_uncut c past) (trace_finished C c z k (heard_finish c past) found) (stands_orderly C c z k) quiet k.met k.stands p.passed
 
 own_ring : (C : Config) (past : Past) (ring : List ℕ) (group : List Note) (old new : State) → IsDistinct nat_eq (shared past).live → old.ring ≡ ring → ((c : ℕ) → SoundAt C c (seen past old c)) → MovesRing C past ring group old new
     → SoundAt C (front ring) (seen_after past Runs group new (front ring))
@@ -406,9 +439,9 @@ own_turn C past a rest group moment r old new e s notes f =
         subst G (sym k) (from_served C a.conn (seen_after past Turns ns (turned_to a rest old) a.conn) (still_accepted a.conn (heard a.conn past) Turns ns (turn_told a.conn (heard a.conn past) ns b.about) accepted) (turn_served C past a rest old ns fails e v b entry))
 
     by_notes : is_some (heard a.conn past).accepted ≡ true → Served C a.conn (seen past old a.conn) → TurnNotes a moment r group → SoundAt C a.conn (seen_after past Turns group (turned_to a rest old) a.conn)
-    by_notes accepted v (inl k) = with_notes (noted_by a moment r) false k accepted v (record { about = (refl, tt); choices = refl; cut = λ took. refl; failure = refl; ended = refl; hidden = refl; causes = refl; goes_on = refl; opens = refl; edges = λ x. refl }) (inl refl)
-    by_notes accepted v (inr (inl k)) = with_notes (lost_by a moment r) true k accepted v (record { about = (refl, (refl, tt)); choices = refl; cut = λ took. refl; failure = refl; ended = refl; hidden = refl; causes = refl; goes_on = refl; opens = refl; edges = λ x. refl }) (inl refl)
-    by_notes accepted v (inr (inr k)) = with_notes (Finish a.conn Memory ∷ []) true k accepted v (record { about = (refl, tt); choices = refl; cut = λ took. refl; failure = refl; ended = refl; hidden = refl; causes = refl; goes_on = refl; opens = refl; edges = λ x. refl }) (inr (refl, refl))
+    by_notes accepted v (inl k) = with_notes (noted_by a moment r) false k accepted v (record { about = (refl, tt); choices = refl; cut = λ took. refl; failure = refl; ended = refl; hidden = refl; causes = refl; goes_on = refl; opens = refl; closes_none = refl; edges = λ x. refl }) (inl refl)
+    by_notes accepted v (inr (inl k)) = with_notes (lost_by a moment r) true k accepted v (record { about = (refl, (refl, tt)); choices = refl; cut = λ took. refl; failure = refl; ended = refl; hidden = refl; causes = refl; goes_on = refl; opens = refl; closes_none = refl; edges = λ x. refl }) (inl refl)
+    by_notes accepted v (inr (inr k)) = with_notes (Finish a.conn Memory ∷ []) true k accepted v (record { about = (refl, tt); choices = refl; cut = λ took. refl; failure = refl; ended = refl; hidden = refl; causes = refl; goes_on = refl; opens = refl; closes_none = refl; edges = λ x. refl }) (inr (refl, refl))
 
 own_queue : (C : Config) (past : Past) (store : StoreState) (moment : ℕ) (queue : List Asked) (group : List Note) (old new : State) → old.queue ≡ queue → ((c : ℕ) → SoundAt C c (seen past old c)) → MovesQueue store moment queue group old new → SoundAt C (asker queue) (seen_after past Turns group new (asker queue))
 own_queue C past store moment [] group old new e each m = own_rest C past Turns group old new 0 m (λ h. others_not_heard 0 h Turns [] refl refl) refl (each 0)

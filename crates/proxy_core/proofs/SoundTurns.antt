@@ -5,9 +5,9 @@ use Rattle.std.proofs.lemmas.Grind.{flat_map-append}
 use Rattle.px_bytes.specs.declared.addr.Side.{Side}
 use Rattle.core_events.specs.declared.edges.Edges.{Edges}
 use Rattle.core_events.specs.declared.note.Note.{Note}
-use Rattle.core_events.specs.Edges.{edge_of, edges_noted}
+use Rattle.core_events.specs.Edges.{edge_of, edges_noted, is_connecting}
 use Rattle.conn_trace.specs.Further.{Further, longer, replies_only, CutMeets}
-use Rattle.conn_trace.specs.Gates.{TakenCounts, no_bytes, Met}
+use Rattle.conn_trace.specs.Gates.{TakenCounts, no_bytes, Met, sent_from, to_take}
 use Rattle.core_events.specs.declared.event_kind.EventKind.TheVariants.{Turns}
 use Rattle.conn_trace.specs.Heard.{SideHeard, Heard, taken, hears, start_of}
 use Rattle.conn_trace.specs.Item.{Item, to_client, to_server, cause_of, client_output, server_output, reasons_in}
@@ -24,7 +24,8 @@ use Rattle.proxy_core.specs.Ready.{is_in, with_ready}
 use Rattle.proxy_core.specs.Scheduler.{State, seen, seen_after, untaken_all, servers_left}
 use Rattle.proxy_core.specs.Servers.{took_of}
 use Rattle.record_model.specs.Setup.{setup_in, setup_of, stand_of}
-use Rattle.proxy_core.specs.Shown.{shows, closes, ends_it, causes_told, causes_behind}
+use Rattle.proxy_core.specs.Shown.{shows, closes_for_good, ends_it, causes_told, causes_behind}
+use Rattle.proxy_core.specs.Servers.{Linked, closed_servers, draining, given_up}
 use Rattle.proxy_core.specs.Sound.{is_closed, TookWithin, Spot, CallsTold, Served}
 use Rattle.run_config.specs.declared.config.Config.{Config}
 use Rattle.proxy_core.proofs.CameAt.{UncutOr, heard_uncut}
@@ -36,7 +37,8 @@ use Rattle.proxy_core.proofs.Licensing.{cut_stays, stays_licensed}
 use Rattle.proxy_core.proofs.Linking.{linked_now, longer_linked}
 use Rattle.proxy_core.proofs.Standing.{longer_pays, served_at}
 use Rattle.proxy_core.proofs.Sums.{causes_on, shown_on}
-use Rattle.proxy_core.proofs.SoundComes.{calls_on, calls_answered, or_first, or_none, ends_told}
+use Rattle.proxy_core.proofs.SoundComes.{calls_on, calls_answered, or_first, or_none, ends_told, ClosedNow, closed_by, closed_stays, closed_where, come_drains, longer_drains, took_each}
+use Rattle.proxy_core.proofs.LateServers.{late_stays, turns_late, longer_serves}
 
 pub within_same : (h h' : Heard) (place more : List Item) → h'.client ≡ h.client → h'.connects ≡ h.connects → TookWithin h place → TookWithin h' (place ++ more)
 within_same h h' place more e f k = record {
@@ -67,7 +69,8 @@ pub record Answers (c : ℕ) (group : List Note) (fails : Bool) : Type 0 where
   pub hidden : filter shows group ≡ []
   pub causes : causes_told group ≡ causes_behind fails
   pub goes_on : list_any ends_it group ≡ false
-  pub opens : list_any closes group ≡ false
+  pub opens : list_any closes_for_good group ≡ false
+  pub closes_none : closed_servers group ≡ 0
   pub edges : (x : Edges) → edges_noted group x ≡ x
 
 stands_turn : (g : Setup) (c : ℕ) (h : Heard) (group : List Note) (place : List Item) (l : TraceState) → UncutOr h.cut h.finished → choices_told (notes_about c group) ≡ [] → ((took : TakenCounts) → cut_told took (notes_about c group) ≡ None) → Unfolds g (start_of g h) place l
@@ -149,7 +152,11 @@ turn_served C past a rest old group fails e k b entry =
     let Q : List (List (List ℕ)) → Type 0 = λ x. Spot fails true (c ∷ []) x g (taken h') at h'.edges in
     let M : TakenCounts → Type 0 = λ y. Met no_bytes y z.place in
     let told : CallsTold h'.failed [] z.place (h.notes ++ group) = by_entry h'.failed failed was entry in
-    let none : (side : Side) → is_closed (edge_of side h'.edges).state ≡ true → ⊥ = λ side q. (let P : Edges → Type 0 = λ x. is_closed (edge_of side x).state ≡ true in let o = (k.closed_over f.found side (subst P edges q)).0 in let x = sym f.waits ∙ o in cc) in
+    let was_closed : (side : Side) → is_closed (edge_of side h'.edges).state ≡ true → is_closed (edge_of side h.edges).state ≡ true = λ side q. (let P : Edges → Type 0 = λ x. is_closed (edge_of side x).state ≡ true in subst P edges q) in
+    let now : (side : Side) → is_closed (edge_of side h'.edges).state ≡ true → ClosedNow g at h' z.place side = λ side q. record {
+      there = closed_stays g l (replies_only (replies_told (notes_about c group))) side (closed_by g l h.edges (k.closed_over f.found) side (was_closed side q));
+      none = ap (λ y. to_take (sent_from no_bytes z.place) y side) s.taken ∙ took_each c z k.ends f.found side (was_closed side q);
+    } in
     let causes = map cause_of (reasons_in z.place) in
     served_at C c z' g at (ap (setup_in C) t.accepted) (record {
       stands = stands;
@@ -158,10 +165,12 @@ turn_served C past a rest old group fails e k b entry =
       paid = longer_pays g z.place l (replies_only (replies_told (notes_about c group))) z.spent k.paid;
       shown = ap (filter shows) t.notes ∙ shown_on h.notes group ∙ ap (λ x. filter shows h.notes ++ x) b.hidden ∙ append-nil (filter shows h.notes) ∙ k.shown;
       causes = ap causes_told t.notes ∙ causes_on h.notes group ∙ ap (λ x. x ++ causes_told group) (k.causes ∙ ap (λ x. causes ++ causes_behind x) f.found ∙ append-nil causes) ∙ ap (λ x. causes ++ x) b.causes ∙ ap (λ x. causes ++ causes_behind x) (sym failed);
-      ends = ends_told c z z' group false k.ends f.is_live t.notes live (record { going = λ n. b.goes_on; last = λ o. absurd (let x : false ≡ true = o in cc) }) (λ o. absurd (let x : false ≡ true = o in cc)) (λ o. t.finished ∙ or_first h.finished (finish_told (map tells group)) o) (λ o. absurd (let x : false ≡ true = sym b.opens ∙ o in cc)) (λ x side q. absurd (none side q));
-      closed_over = λ x side q. absurd (none side q);
-      linked = linked_now h.finished h'.finished at h.edges.server.state h'.edges.server.state (λ x. or_none h.finished (finish_told (map tells group)) (sym t.finished ∙ x)) (λ x. ap (λ y. y.server.state) edges) (longer_linked h.finished (replies_only (replies_told (notes_about c group))) l h.edges.server.state refl k.linked);
-      own = k.own;
+      ends = ends_told c z z' group false k.ends f.is_live t.notes live (record { going = λ n. b.goes_on; last = λ o. absurd (let x : false ≡ true = o in cc) }) (λ o. absurd (let x : false ≡ true = o in cc)) (λ o. t.finished ∙ or_first h.finished (finish_told (map tells group)) o) (λ o. absurd (let x : false ≡ true = sym b.opens ∙ o in cc)) (λ x side q. (now side q).none);
+      closed_over = λ x. closed_where g at h' z.place now;
+      linked = subst (λ y. Linked h'.finished y at h'.edges.server.state) (sym s.taken) (linked_now h.finished h'.finished (taken h) at h.edges.server.state h'.edges.server.state (λ x. or_none h.finished (finish_told (map tells group)) (sym t.finished ∙ x)) (λ x. ap (λ y. y.server.state) edges) (longer_linked h.finished (taken h) (replies_only (replies_told (notes_about c group))) l h.edges.server.state refl k.linked));
+      late = late_stays h.late h'.late h.finished h'.finished l at h.edges.server.state h'.edges.server.state (turns_late c h group) (λ x. t.finished ∙ or_first h.finished (finish_told (map tells group)) x) (longer_serves (replies_only (replies_told (notes_about c group))) l refl)
+          (λ x. sym (ap (λ y. is_connecting y.server.state) edges) ∙ x) k.late;
+      drains = λ x. come_drains h.notes group h'.notes (draining (taken h) l) (draining (taken h') at) (given_up z.place) t.notes (let a = ap (λ y. draining y at) s.taken in let d = longer_drains (taken h) (replies_only (replies_told (notes_about c group))) l in let none = b.closes_none in omega (arith, a, d, none)) (k.drains (or_none h.finished (finish_told (map tells group)) (sym t.finished ∙ x)));
       licensed = stays_licensed h h' (cut_stays c h Turns group cut) s.client s.connects k.licensed;
       told = subst K (sym t.notes) (subst A (sym f.one) told);
       spot = subst F (sym failed) (subst L (sym live) (subst R (sym ready) (subst Q (sym f.one) (ready_once fails c g (taken h') at h'.edges))));

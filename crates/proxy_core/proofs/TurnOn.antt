@@ -1,5 +1,5 @@
 -- A connection of the code whose shared call is answered: what it goes on with, for what was heard then.
-use Rattle.std.proofs.Common.{◌≡◌, ◌⊎◌, inl, inr, refl, sym, ap, subst, ◌∙◌, ℕ, ◌*◌, List, [], ◌∷◌, drop, map, append-nil, Bool, true, false, ◌||◌, Option, Some, None, if◌then◌else◌}
+use Rattle.std.proofs.Common.{◌≡◌, ◌⊎◌, inl, inr, refl, sym, ap, subst, ◌∙◌, ℕ, ◌+◌, ◌*◌, List, [], ◌∷◌, length, drop, map, append-nil, Bool, true, false, ◌||◌, Option, Some, None, if◌then◌else◌}
 use Rattle.px_bytes.specs.declared.fault.Reply.{Reply}
 use Rattle.core_events.specs.declared.edges.Edges.{Edges}
 use Rattle.core_events.specs.declared.note.Cause.TheVariants.{Memory}
@@ -19,6 +19,7 @@ use Rattle.conn_trace.specs.Tellings.{tells, notes_about, replies_told, choices_
 use Rattle.conn_trace.specs.Trace.{Unfolds}
 use Rattle.conn_trace.proofs.Hearing.{event_stands, finished_stands}
 use Rattle.conn_trace.proofs.Streams.{nothing_stream, nothing_server, nothing_on_last}
+use Rattle.conn.specs.Ends.{has_stream}
 use Rattle.conn.specs.Holds.{Around, Holds, HoldsEnds}
 use Rattle.conn.specs.Stages.{is_asking}
 use Rattle.conn.specs.declared.connection.Conn.{Conn}
@@ -31,13 +32,15 @@ use Rattle.proxy_core.specs.Moves.{TurnNotes}
 use Rattle.record_model.specs.History.{store_after}
 use Rattle.record_model.specs.Past.{Past, ended_in, heard}
 use Rattle.proxy_core.specs.Represents.{ConnectionContinues, Continues, HoldsQueues, around}
-use Rattle.proxy_core.specs.Scheduler.{State, seen, seen_after}
+use Rattle.proxy_core.specs.Scheduler.{State, last_took, seen, seen_after, servers_left}
+use Rattle.proxy_core.specs.Servers.{made}
 use Rattle.record_model.specs.Setup.{setup_of, stand_of}
 use Rattle.proxy_core.specs.declared.call.Asked.{Asked}
 use Rattle.run_config.specs.declared.config.Config.{Config}
 use Rattle.proxy_core.proofs.CameAt.{UncutOr, heard_uncut}
 use Rattle.proxy_core.proofs.CameOn.{Stood, ends_standing, paid_standing, to_standing}
 use Rattle.proxy_core.proofs.GroupNotes.{About, tells_all}
+use Rattle.proxy_core.proofs.Hearing.{turn_stays}
 use Rattle.proxy_core.proofs.Meeting.{around_quiet}
 
 abbrev adds : Brought → List Reply → List Choice → Option Cut → Further
@@ -111,8 +114,8 @@ module _ (C : Config) (past : Past) (s : State) (a : Asked) (ring : List ℕ) (q
   queues_same : (group : List Note) (old new : Conn) → new.ends ≡ old.ends → HoldsQueues h place old.ends → HoldsQueues (hears a.conn (heard a.conn past) Turns group) place new.ends
   queues_same group old new same q = record {
     client = ap (λ e. e.client.queued) same ∙ q.client ∙ ap (λ x. drop x.counted (client_output place)) (sym (around_same group));
-    server = ap (λ e. e.server.queued) same ∙ q.server ∙ ap (λ x. drop x.counted_server (server_output 1 place)) (sym (around_same group));
-    lost = ap (λ e. e.lost) same ∙ q.lost;
+    server = λ there. ap (λ e. e.server.queued) same ∙ q.server (ap (λ e. has_stream e.link) (sym same) ∙ there) ∙ ap (λ cs. drop (last_took cs) (server_output (made cs) place)) (sym (turn_stays c h group).connects);
+    lost = ap (λ e. length e.server.queued + e.lost) same ∙ q.lost ∙ ap (λ cs. servers_left 1 cs place) (sym (turn_stays c h group).connects);
   }
 
   stands : (moment : ℕ) (r : Reply) (group : List Note) (fails : Bool) → TurnNoted a moment r group fails → Unfolds (setup_of C h) (start_of (setup_of C h) (hears a.conn (heard a.conn past) Turns group)) place (longer (replies_only (replies_told (notes_about a.conn group))) (stand_of C h place))

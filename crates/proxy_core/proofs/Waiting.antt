@@ -1,12 +1,12 @@
 -- What waits for the sides of a connection of the code is what was sent to them and not taken.
-use Rattle.std.proofs.Common.{◌≡◌, inl, inr, refl, sym, ap, ◌∙◌, ℕ, zero, suc, ◌+◌, List, [], ◌∷◌, length, drop, Bool, true, false, Option, Some, None, if◌then◌else◌, arith}
+use Rattle.std.proofs.Common.{◌≡◌, inl, inr, refl, sym, ap, ◌∙◌, ℕ, zero, suc, ◌+◌, List, [], ◌∷◌, ◌++◌, length, drop, Bool, true, false, Option, Some, None, if◌then◌else◌, arith}
 use Rattle.px_bytes.specs.declared.addr.Side.{Side}
 use Rattle.px_bytes.specs.declared.addr.Side.TheVariants.{Client, Server}
 use Rattle.conn_trace.specs.Gates.{no_bytes, sent_from, taken_of, to_take, untaken}
-use Rattle.conn_trace.specs.Heard.{Heard, taken, taken_by}
+use Rattle.conn_trace.specs.Heard.{Heard, SideHeard, taken, taken_by}
 use Rattle.conn_trace.specs.Item.{Item, client_output, server_output}
 use Rattle.conn_trace.proofs.Sending.{sent_to_server}
-use Rattle.conn.specs.Ends.{is_up, number_by, servers_by}
+use Rattle.conn.specs.Ends.{connects_by, has_stream, is_taken, number_by, sent_here, servers_by}
 use Rattle.conn.specs.Holds.{HoldsEnds}
 use Rattle.conn.specs.declared.connection.Conn.{Conn}
 use Rattle.conn.specs.declared.ends.Link.{Link}
@@ -21,8 +21,13 @@ use Rattle.record_model.specs.Setup.{setup_of, begins_at, stand_of}
 use Rattle.proxy_core.specs.Sound.{Served}
 use Rattle.run_config.specs.declared.config.Config.{Config}
 use Rattle.proxy_core.proofs.Standing.{sent_at}
-use Rattle.proxy_core.proofs.PlainServers.{numbered_at, plain_ends}
-use Rattle.proxy_core.proofs.ServerLeft.{unserved_at}
+use Rattle.conn.proofs.Servers.{last_at}
+use Rattle.conn_trace.specs.Setup.{Setup}
+use Rattle.conn_trace.specs.State.{TraceState}
+use Rattle.conn.specs.declared.ends.End.{End}
+use Rattle.proxy_core.specs.Servers.{made}
+use Rattle.proxy_core.proofs.ServerLeft.{last_is_present}
+use Rattle.std.proofs.lemmas.List.{length-drop}
 
 -- its ends and queues, whether it goes on or found no memory
 ends_of : (C : Config) (z : Seen) (conn : Conn) → ConnectionContinues C z (Some conn) → HoldsEnds (around z.heard) (stand_of C z.heard z.place) conn.ends
@@ -76,25 +81,14 @@ left_by : (reset : Bool) (n : ℕ) (queued sent : List ℕ) → queued ≡ drop 
 left_by true n queued sent e = refl
 left_by false n queued sent e = e
 
--- where no server connection is there nothing was sent to it
-none_by : (reset : Bool) (n : ℕ) (queued : List ℕ) (sent : List ℕ) → length queued + n ≡ length sent → length sent ≡ 0 → (if reset then [] else queued) ≡ left_of (Some 0) sent
-none_by reset n queued sent is none =
-    let q : queued ≡ [] = none_of_length queued (omega (arith, is, none)) in
-    ap (λ x. if reset then [] else x) q ∙ both reset ∙ sym (ap (left_of (Some 0)) (none_of_length sent none))
-  where
-    both : (b : Bool) → ◌≡◌ {A = List ℕ} (if b then [] else []) []
-    both true = refl
-    both false = refl
+none_by : (reset : Bool) (queued : List ℕ) → queued ≡ [] → (if reset then [] else queued) ≡ []
+none_by true queued e = refl
+none_by false queued e = e
 
--- so many bytes were sent to the server connection that the link has
-link_left : (k : Link) (reset : Bool) (n sent : ℕ) (queued : List ℕ) (place : List Item) → length queued + n ≡ sent → (is_up k ≡ false → sent ≡ 0) → queued ≡ drop n (server_output 1 place) → sent ≡ length (server_output (number_by k 0) place)
-    → (if reset then [] else queued) ≡ left_of (taken_of (servers_by [] k reset n) (number_by k 0)) (server_output (number_by k 0) place)
-link_left link.Up reset n sent queued place is none e all = left_by reset n queued (server_output 1 place) e
-link_left link.GivenUp reset n sent queued place is none e all = left_by reset n queued (server_output 1 place) e
-link_left link.Absent reset n sent queued place is none e all = none_by reset n queued (server_output 0 place) (is ∙ all) (sym all ∙ none refl)
-link_left link.Asked reset n sent queued place is none e all = none_by reset n queued (server_output 0 place) (is ∙ all) (sym all ∙ none refl)
-link_left link.Refused reset n sent queued place is none e all = none_by reset n queued (server_output 0 place) (is ∙ all) (sym all ∙ none refl)
-link_left link.Made reset n sent queued place is none e all = none_by reset n queued (server_output 0 place) (is ∙ all) (sym all ∙ none refl)
+-- where all was taken nothing is left
+all_left : (o : Option ℕ) (out : List ℕ) → untaken (length out) o ≡ 0 → left_of o out ≡ []
+all_left None out e = refl
+all_left (Some n) out e = none_of_length (drop n out) (length-drop n out ∙ e)
 
 pub queue_same : (C : Config) (c : ℕ) (z : Seen) (side : Side) (o : Option Conn) → Served C c z → ConnectionContinues C z o → queue_on side o ≡ queue_at z.heard z.place side
 queue_same C c z Client None v k = sym (ap (λ p. queue_at z.heard p Client) k.no_items ∙ left_none (taken z.heard).client)
@@ -103,15 +97,53 @@ queue_same C c z Client (Some conn) v k =
     let e = conn.ends.client in
     left_by e.reset z.heard.client.took e.queued (client_output z.place) (queues_of C z conn k).client
     ∙ ap (λ t. left_of t (client_output z.place)) (sym (ends_of C z conn k).client_took)
-queue_same C c z Server (Some conn) v k =
-    let e = conn.ends.server in
-    let n = last_took z.heard.connects in
-    let g = setup_of C z.heard in
-    let at = stand_of C z.heard z.place in
-    let h = plain_ends z.heard at conn.ends (ends_of C z conn k) (unserved_at g z.heard z.place at v.own v.stands) (numbered_at g z.heard z.place at v.own v.stands) in
-    let number : number_by conn.ends.link 0 ≡ (sent_from no_bytes z.place).number = sym h.number ∙ ap (λ s. s.number) (sent_is C c z v) in
-    let all : at.sent.server ≡ length (server_output (number_by conn.ends.link 0) z.place) =
-    sent_to_server (setup_of C z.heard) (begins_at C z.heard).client (begins_at C z.heard).answers at z.place v.stands ∙ ap (λ m. length (server_output m z.place)) h.number in
-    link_left conn.ends.link e.reset n at.sent.server e.queued z.place h.server_untaken h.unsent (queues_of C z conn k).server all
-    ∙ ap (λ s. left_of (taken_of s (number_by conn.ends.link 0)) (server_output (number_by conn.ends.link 0) z.place)) (sym h.servers_took)
-    ∙ ap (λ m. left_of (taken_of (taken z.heard).servers m) (server_output m z.place)) number
+queue_same C c z Server (Some conn) v k = by_link conn.ends.link refl
+  where
+    g : Setup
+    g = setup_of C z.heard
+
+    at : TraceState
+    at = stand_of C z.heard z.place
+
+    e : End
+    e = conn.ends.server
+
+    h : HoldsEnds (around z.heard) at conn.ends
+    h = ends_of C z conn k
+
+    cs : List (Option SideHeard)
+    cs = z.heard.connects
+
+    -- what is left to the one of a number
+    left : ℕ → List ℕ
+    left n = left_of (taken_of (taken z.heard).servers n) (server_output n z.place)
+
+    number : at.sent.number ≡ (sent_from no_bytes z.place).number
+    number = ap (λ s. s.number) (sent_is C c z v)
+
+    -- it is the present one
+    there : at.sent.number ≡ suc (length h.earlier) → at.answers.connects ≡ [] → (taken z.heard).servers ≡ h.earlier ++ taken_by e.reset (last_took cs) ∷ [] → has_stream conn.ends.link ≡ true → (if e.reset then [] else e.queued) ≡ queue_at z.heard z.place Server
+    there present none took stream =
+        let last : made cs ≡ at.sent.number = last_is_present g z.heard z.place at v.stands none in
+        let taken_is : taken_of (taken z.heard).servers at.sent.number ≡ taken_by e.reset (last_took cs) = ap (λ ts. taken_of ts at.sent.number) took ∙ ap (taken_of (h.earlier ++ taken_by e.reset (last_took cs) ∷ [])) present ∙ last_at h.earlier (taken_by e.reset (last_took cs)) in
+        left_by e.reset (last_took cs) e.queued (server_output (made cs) z.place) ((queues_of C z conn k).server stream)
+        ∙ ap (λ n. left_of (taken_by e.reset (last_took cs)) (server_output n z.place)) last ∙ ap (λ t. left_of t (server_output at.sent.number z.place)) (sym taken_is) ∙ ap left number
+
+    -- the one before took all, and nothing was sent to this one
+    free : is_taken conn.ends.link ≡ false → e.queued ≡ [] → (if e.reset then [] else e.queued) ≡ queue_at z.heard z.place Server
+    free untaken_yet none =
+        let sent : at.sent.server ≡ length (server_output at.sent.number z.place) = sent_to_server g (begins_at C z.heard).client (begins_at C z.heard).answers at z.place v.stands in
+        none_by e.reset e.queued none
+        ∙ sym (all_left (taken_of (taken z.heard).servers at.sent.number) (server_output at.sent.number z.place) (ap (λ n. untaken n (taken_of (taken z.heard).servers at.sent.number)) (sym sent) ∙ h.took_all untaken_yet)) ∙ ap left number
+
+    nothing : has_stream conn.ends.link ≡ false → e.queued ≡ []
+    nothing none = ap (λ x. x.queued) (h.nothing_came none)
+
+    by_link : (x : Link) → conn.ends.link ≡ x → (if e.reset then [] else e.queued) ≡ queue_at z.heard z.place Server
+    by_link link.Absent is = free (ap is_taken is) (nothing (ap has_stream is))
+    by_link link.Asked is = free (ap is_taken is) (nothing (ap has_stream is))
+    by_link link.Refused is = free (ap is_taken is) (nothing (ap has_stream is))
+    by_link link.Made is = free (ap is_taken is) (none_of_length e.queued (let s = h.server_untaken (ap has_stream is) ∙ ap (λ x. sent_here x at.sent.server) is in omega (arith, s)))
+    by_link link.Up is = there (h.number ∙ ap (λ x. number_by x (length h.earlier)) is) (h.connects ∙ ap (λ x. connects_by x e) is) (h.servers_took ∙ ap (λ x. servers_by h.earlier x e.reset (last_took cs)) is) (ap has_stream is)
+    by_link link.GivenUp is = there (h.number ∙ ap (λ x. number_by x (length h.earlier)) is) (h.connects ∙ ap (λ x. connects_by x e) is) (h.servers_took ∙ ap (λ x. servers_by h.earlier x e.reset (last_took cs)) is) (ap has_stream is)
+    by_link (link.Leaving w) is = there (h.number ∙ ap (λ x. number_by x (length h.earlier)) is) (h.connects ∙ ap (λ x. connects_by x e) is) (h.servers_took ∙ ap (λ x. servers_by h.earlier x e.reset (last_took cs)) is) (ap has_stream is)

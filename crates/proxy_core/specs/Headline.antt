@@ -24,7 +24,8 @@ use Rattle.proxy_core.specs.Moves.{Leads}
 use Rattle.record_model.specs.Past.{Past, heard, shared}
 use Rattle.proxy_core.specs.Scheduler.{State, Seen, last_took, seen, untaken_of, untaken_all}
 use Rattle.proxy_core.specs.Scheduler.{pending}
-use Rattle.proxy_core.specs.Servers.{last_reset, licenses, took_of}
+use Rattle.proxy_core.specs.Servers.{allows, any_reset, closed_servers, given_up, last_reset, licenses, made}
+use Rattle.proxy_core.specs.Servers.{took_of}
 use Rattle.proxy_core.specs.Shown.{shows, causes_told, causes_behind}
 use Rattle.record_model.specs.Setup.{setup_of, begins_at, stand_of}
 use Rattle.proxy_core.specs.Sound.{EndsTold}
@@ -68,7 +69,7 @@ GaveDeliverable C h place =
 -- no cut that is allowed goes on from there; once it has finished none does
 abbrev pub NoCutIsDue : Config → Heard → List Item → Type 0
 NoCutIsDue C h place =
-    (reason : CutReason) → licenses h reason ≡ true
+    (reason : CutReason) → allows h (stand_of C h place) reason ≡ true
     → cut_is_taken (setup_of C h) (record { reason = reason; took = taken h })
     (stand_of C h place) ≡ false
 
@@ -98,15 +99,17 @@ pub record SettledIsComplete (C : Config) (h : Heard) (s : State) (live : Bool)
   pub ended_clean_sent_all : live ≡ false → h.failed ≡ false → untaken_all h place ≡ 0
       → IsWhole C h place
 
--- What is told of the ends of a connection: nothing of it is closed before it has finished, and an
--- end that is closed took all or was reset, unless it found no memory. It isn't over while it is live; one that
--- isn't has told that it is over, once and last, with what was sent to its sides and not taken
--- counted as dropped, and both its ends are closed. Where no side of it was reset and it found
--- memory, nothing is dropped.
+-- What is told of the ends of a connection: its client's end isn't closed before it has finished, and no more
+-- server connections are than it gave up; an end that is closed took all or was reset, unless it found no
+-- memory. It isn't over while it is live; one that isn't has told that it is over, once and last, with what
+-- was sent to its sides and not taken counted as dropped, and both its ends are closed. Where no side of it
+-- was reset and it found memory, nothing is dropped.
 pub record ClosesRightly (c : ℕ) (z : Seen) : Type 0 where
   pub told : EndsTold c z
+  pub closes_given_up : z.heard.finished ≡ false
+      → closed_servers z.heard.notes ≤ given_up z.place
   pub dropped : z.live ≡ false → z.heard.failed ≡ false → z.heard.client.reset ≡ false
-      → last_reset z.heard.connects ≡ false → untaken_all z.heard z.place ≡ 0
+      → any_reset z.heard.connects ≡ false → untaken_all z.heard z.place ≡ 0
 
 -- The notes of a connection that show an item are those of the items that it passed. It finishes
 -- for its trace's reasons and for want of memory behind them, where it found none: its trace
@@ -135,15 +138,15 @@ pub record EntriesAreCalls (h : Heard) (asked : List (List (List ℕ))) (place :
   pub unanswered_is_last : length unanswered ≤ 1
   pub unanswered_is_open : h.failed ≡ false → unanswered ≡ asked
 
--- The counts of a live connection: taken and pending are what was sent to a side, to the server's
--- of its present connection; once a side was reset nothing is pending to it.
+-- The counts of a live connection: taken and pending are what was sent to a side, to the server's, of the last
+-- connection that was made; once a side was reset nothing is pending to it.
 pub record OpenCounts (past : Past) (s : State) (c : ℕ) : Type 0 where
   pub sent : (heard c past).client.reset ≡ false
       → (heard c past).client.took + pending past s c Client ≡ length (client_output (s.places c))
   pub reset : (heard c past).client.reset ≡ true → pending past s c Client ≡ 0
   pub server_sent : last_reset (heard c past).connects ≡ false
       → last_took (heard c past).connects + pending past s c Server
-      ≡ (sent_from no_bytes (s.places c)).server
+      ≡ length (server_output (made (heard c past).connects) (s.places c))
   pub server_reset : last_reset (heard c past).connects ≡ true → pending past s c Server ≡ 0
 
 -- What all is promised of an accepted connection. Each Run that stopped in the middle behind fewer

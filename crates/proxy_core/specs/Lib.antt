@@ -18,7 +18,7 @@ pub mod Sound
 pub mod Asked
 pub mod Others
 pub mod Fitting
-pub mod OneServer
+pub mod Numbered
 pub mod Bounds
 pub mod Represents
 pub mod Steps

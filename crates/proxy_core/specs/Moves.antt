@@ -15,11 +15,10 @@ use Rattle.conn_trace.specs.Heard.{edges_met, hears}
 use Rattle.core_events.specs.declared.edges.Edges.{Edges}
 use Rattle.conn_trace.specs.Costs.{SlicesPaid}
 use Rattle.conn_trace.specs.Item.{Item, calls_in}
-use Rattle.conn_trace.specs.State.{Absent, TraceState, link_of}
+use Rattle.conn_trace.specs.State.{TraceState}
 use Rattle.conn.specs.RunsItems.{Passes, RunsItems, slices_in}
 use Rattle.conn.specs.Settling.{closing, is_drained, settling_at}
 use Rattle.conn.specs.RunsItems.{out_of_memory}
-use Rattle.conn.specs.Servers.{gives_up}
 use Rattle.conn.specs.declared.turn.ConnTurn.{ConnTurn}
 use Rattle.shared_store.specs.Calls.{reply}
 use Rattle.shared_store.specs.Store.{StoreState}
@@ -115,16 +114,14 @@ pub record RunsOn (C : Config) (h : Heard) (c : ℕ) (rest : List ℕ) (group : 
       ≡ ran c (ring_behind turn c rest) (queue_behind turn c old.queue) more
       (slices_in turn (length group)) old
 
--- The front gives items, no call and no giving up of a server connection among them, and with HTTP no asking for one,
--- finds no memory, and ends: what was sent and not taken is dropped.
+-- The front gives items, no call among them, finds no memory, and ends: what was sent and not taken is
+-- dropped.
 pub record RunsOut (C : Config) (h : Heard) (c : ℕ) (rest : List ℕ) (group : List Note)
     (old new : State) : Type 0 where
   pub more : List Item
   pub at : TraceState
   pub passes : Passes (setup_of C h) (taken h) (stand_of C h (old.places c)) more at
   pub no_call : calls_in more ≡ []
-  pub kept : gives_up more ≡ false
-  pub alone : (setup_of C h).http ≡ true → link_of at.server ≡ Absent
   pub notes : group
       ≡ out_of_memory c h.edges (stand_of C h (old.places c)).sent (taken h) more
       (untaken_all h (old.places c ++ more))

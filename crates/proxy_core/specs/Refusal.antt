@@ -1,9 +1,8 @@
 -- What the scheduler knows of an event, and what a core knows of it, by which each refuses it.
 use Rattle.std.specs.Prelude.{ℕ, length, Bool, true, false, Option, Some, None}
-use Rattle.std.specs.Prelude.{not, ◌||◌, option_map, if◌then◌else◌}
+use Rattle.std.specs.Prelude.{option_map, if◌then◌else◌}
 use Rattle.px_bytes.specs.declared.addr.Side.{Side}
 use Rattle.px_bytes.specs.declared.addr.Side.TheVariants.{Client, Server}
-use Rattle.core_events.specs.Edges.{is_open}
 use Rattle.core_events.specs.declared.event_kind.EventKind.{EventKind}
 use Rattle.core_events.specs.declared.input.Input.{Input}
 use Rattle.conn_trace.specs.Queries as query
@@ -25,15 +24,11 @@ use Rattle.core_events.specs.declared.bad_event.BadEvent.TheVariants.{TooMuch, T
 use Rattle.record_model.specs.Refusal.{Standing, Known, named, has_marked, refusal_by}
 use Rattle.record_model.specs.Refusal.{is_late, answers_nothing, comes_too_much, takes_too_much}
 
--- How many bytes of a side may come: of the client, as many as its trace wants; of the server too
--- while it is there. Once the connection has finished, and where there is no server, the most.
+-- how many bytes of a side may come: as many as its trace wants, and once the connection has
+-- finished the most
 abbrev pub wants_at : Config → Seen → Side → ℕ
-wants_at C z Client =
-    if z.heard.finished then unread_limit
-    else query.wanted Client (stand_of C z.heard z.place)
-wants_at C z Server =
-    if z.heard.finished || not (is_open z.heard.edges.server.state) then unread_limit
-    else query.wanted Server (stand_of C z.heard z.place)
+wants_at C z side =
+    if z.heard.finished then unread_limit else query.wanted side (stand_of C z.heard z.place)
 
 abbrev pub standing_by : Config → Bool → Seen → Option Standing
 standing_by C false z = None

@@ -1,8 +1,9 @@
 -- What a core stands for: a configuration, a past and a state of the scheduler.
-use Rattle.std.specs.Prelude.{◌≡◌, ◌⊎◌, ℕ, ◌*◌, List, [], true, false, Option, Some, None, drop}
+use Rattle.std.specs.Prelude.{◌≡◌, ◌⊎◌, ℕ, ◌+◌, ◌*◌, List, [], length, true, false, Option, Some, None, drop}
 use Rattle.conn_trace.specs.Heard.{Heard, taken}
 use Rattle.conn_trace.specs.Costs.{paid_by}
 use Rattle.conn_trace.specs.Item.{Item, client_output, server_output}
+use Rattle.conn.specs.Ends.{has_stream}
 use Rattle.conn.specs.Holds.{Around, Holds, HoldsEnds}
 use Rattle.conn.specs.Paid.{Paid}
 use Rattle.conn.specs.declared.connection.Conn.{Conn}
@@ -16,7 +17,8 @@ use Rattle.proxy_core.specs.Live.{asks_in, edges_in}
 use Rattle.record_model.specs.Past.{Past, Shared, shared}
 use Rattle.proxy_core.specs.Ready.{numbers}
 use Rattle.proxy_core.specs.Refusals.{live_at}
-use Rattle.proxy_core.specs.Scheduler.{State, Seen, last_took, seen}
+use Rattle.proxy_core.specs.Scheduler.{State, Seen, last_took, seen, servers_left}
+use Rattle.proxy_core.specs.Servers.{made}
 use Rattle.proxy_core.specs.Serving.{Serves}
 use Rattle.record_model.specs.Setup.{statics_of, setup_of, stand_of}
 use Rattle.proxy_core.specs.Sound.{Sound}
@@ -32,12 +34,13 @@ around h = record {
   counted_server = last_took h.connects;
 }
 
--- what waits for its sides is what was sent to them and not taken; no server connection was made
--- before, so none lost anything
+-- What waits for its sides is what was sent to them and not taken: to the server's, of the last that was
+-- made, where it is there. With what those before lost it is what is left of all.
 pub record HoldsQueues (h : Heard) (place : List Item) (e : Ends) : Type 0 where
   pub client : e.client.queued ≡ drop h.client.took (client_output place)
-  pub server : e.server.queued ≡ drop (last_took h.connects) (server_output 1 place)
-  pub lost : e.lost ≡ 0
+  pub server : has_stream e.link ≡ true
+      → e.server.queued ≡ drop (last_took h.connects) (server_output (made h.connects) place)
+  pub lost : length e.server.queued + e.lost ≡ servers_left 1 h.connects place
 
 -- the connection goes on with its trace from where it stands, and the slices that it spent are paid
 -- for, each with 1,991 steps

@@ -1,7 +1,7 @@
 -- The server connections of one connection: what each was told to have taken, what was heard of the
 -- last, and where the server's end stands while the trace stands somewhere.
 use Rattle.std.specs.Prelude.{◌≡◌, ◌≤◌, ℕ, zero, suc, List, [], ◌∷◌, length, Bool, true, false}
-use Rattle.std.specs.Prelude.{◌+◌, ◌||◌, Option, Some, None, nat_eq, if◌then◌else◌}
+use Rattle.std.specs.Prelude.{◌+◌, ◌&&◌, ◌||◌, Option, Some, None, nat_eq, if◌then◌else◌}
 use Rattle.std.specs.Bool.{MatchBool}
 use Rattle.core_events.specs.declared.edges.EdgeState.{EdgeState}
 use Rattle.core_events.specs.declared.edges.EdgeState.TheVariants.{Absent, Connecting}
@@ -13,10 +13,15 @@ use Rattle.core_events.specs.declared.event_kind.EventKind.{EventKind}
 use Rattle.core_events.specs.declared.event_kind.EventKind.TheVariants.{Comes}
 use Rattle.core_events.specs.declared.input.Input.TheVariants.{Connects}
 use Rattle.conn_trace.specs.Heard.{SideHeard, Heard, has_made}
-use Rattle.conn_trace.specs.Item.{Answered, Connected, Item}
+use Rattle.conn_trace.specs.Gates.{TakenCounts, to_take}
+use Rattle.conn_trace.specs.Item.{Item, Retires}
 use Rattle.conn_trace.specs.Places.{is_up}
-use Rattle.conn_trace.specs.Setup.{Setup}
-use Rattle.conn_trace.specs.State.{Stream, Phase, Answering, TraceState, link_of}
+use Rattle.conn_trace.specs.State.{Stream, Phase, Answering, Link, Up, Left, TraceState, link_of}
+use Rattle.conn.specs.Settling.{given_up_at, is_given_up}
+use Rattle.core_events.specs.declared.note.Note.{Note}
+use Rattle.core_events.specs.declared.note.Note.TheVariants.{CloseServer}
+use Rattle.px_bytes.specs.declared.addr.Side.TheVariants.{Server}
+use Rattle.core_events.specs.Edges.{is_connecting}
 use Rattle.core_events.specs.Kinds.{kind_of}
 use Rattle.record_model.specs.Past.{Past}
 
@@ -54,11 +59,23 @@ last_reset [] = false
 last_reset (None ∷ more) = last_reset more
 last_reset (Some s ∷ more) = if has_made more then last_reset more else s.reset
 
+-- one of them was reset
+abbrev pub any_reset : List (Option SideHeard) → Bool
+any_reset [] = false
+any_reset (None ∷ more) = any_reset more
+any_reset (Some s ∷ more) = if s.reset then true else any_reset more
+
 -- what was heard allows a cut for this reason; there is no idle limit yet
 abbrev pub licenses : Heard → CutReason → Bool
 licenses h ClientReset = h.client.reset
 licenses h ServerReset = last_reset h.connects
 licenses h Idle = false
+
+-- what allows a cut where the trace stands: a server's reset while its connection is up
+abbrev pub allows : Heard → TraceState → CutReason → Bool
+allows h at ClientReset = h.client.reset
+allows h at ServerReset = last_reset h.connects && is_up (link_of at.server)
+allows h at Idle = false
 
 -- there is a link: a connection, or one that is asked for
 abbrev pub is_used : EdgeState → Bool
@@ -83,32 +100,71 @@ awaits other = false
 abbrev pub AskedAt : List (Option Stream) → EdgeState → Type 0
 AskedAt [] edge = edge ≡ Connecting
 AskedAt (Some s ∷ more) edge = edge ≡ Open
-AskedAt (None ∷ more) edge = is_free edge ≡ true
+AskedAt (None ∷ more) edge = edge ≡ Absent
 
--- where it is else, by whether the trace has a server
-abbrev pub LinkedAt : Bool → EdgeState → Type 0
-LinkedAt true edge = edge ≡ Open
-LinkedAt false edge = is_free edge ≡ true
+-- a server connection is there, and its closing event hasn't ended
+abbrev pub is_serving : Link → Bool
+is_serving Up = true
+is_serving (Left b) = true
+is_serving other = false
+
+-- Where it is else: of one that serves; of one that is given up, by whether it took all; and where
+-- there is none.
+abbrev pub LinkedAt : (serving given : Bool) → (left : ℕ) → EdgeState → Type 0
+LinkedAt true given left edge = edge ≡ Open
+LinkedAt false true left edge = MatchBool (nat_eq left 0) (edge ≡ Closed) (edge ≡ Open)
+LinkedAt false false left edge = edge ≡ Absent
+
+abbrev pub LinkedBy : TakenCounts → TraceState → EdgeState → Type 0
+LinkedBy took at edge =
+    LinkedAt (is_serving (link_of at.server)) (given_up_at at) (to_take at.sent took Server) edge
 
 -- An answer waits only where the trace awaits it, and one at most. While a connection hasn't
 -- finished its server's end stands where the trace and that answer say.
-pub record Linked (finished : Bool) (at : TraceState) (server : EdgeState) : Type 0 where
+pub record Linked (finished : Bool) (took : TakenCounts) (at : TraceState) (server : EdgeState)
+    : Type 0 where
   pub waits : MatchBool (awaits at.phase) (length at.answers.connects ≤ 1)
       (at.answers.connects ≡ [])
   pub edge : finished ≡ false
-      → MatchBool (awaits at.phase) (AskedAt at.answers.connects server)
-      (LinkedAt (is_up (link_of at.server)) server)
+      → MatchBool (awaits at.phase) (AskedAt at.answers.connects server) (LinkedBy took at server)
 
--- an item that asks for a server connection, or takes the answer
-abbrev pub links : Item → Bool
-links (Connected to) = true
-links (Answered made) = true
-links other = false
+-- bytes of a server may come, for the trace: its connection is there, or was made and isn't taken
+abbrev pub has_server : Link → List (Option Stream) → Bool
+has_server k [] = is_serving k || is_given_up k
+has_server k (None ∷ connects) = is_serving k || is_given_up k
+has_server k (Some s ∷ connects) = true
 
-abbrev pub links_in : List Item → Bool
-links_in [] = false
-links_in (i ∷ items) = links i || links_in items
+abbrev pub serves_at : TraceState → Bool
+serves_at at = has_server (link_of at.server) at.answers.connects
 
--- with HTTP none is asked for yet
-abbrev pub OwnItems : Setup → List Item → Type 0
-OwnItems g items = g.http ≡ true → links_in items ≡ false
+-- A server connection may also be made behind the finish, and nothing is heard of it. Where one was, and
+-- where one is asked for, the trace has none.
+pub record LateServer (late finished : Bool) (at : TraceState) (server : EdgeState) : Type 0 where
+  pub finishes : late ≡ true → finished ≡ true
+  pub gone : late ≡ true → serves_at at ≡ false
+  pub asked : is_connecting server ≡ true → (late ≡ false) × (serves_at at ≡ false)
+
+-- how many server connections items gave up, and how many of them notes close
+abbrev pub gives_up : Item → ℕ
+gives_up Retires = 1
+gives_up other = 0
+
+abbrev pub given_up : List Item → ℕ
+given_up [] = 0
+given_up (i ∷ items) = gives_up i + given_up items
+
+abbrev pub closes_server : Note → ℕ
+closes_server (CloseServer c) = 1
+closes_server other = 0
+
+abbrev pub closed_servers : List Note → ℕ
+closed_servers [] = 0
+closed_servers (n ∷ notes) = closes_server n + closed_servers notes
+
+-- one that is given up and didn't take all
+abbrev pub draining_by : (given took_all : Bool) → ℕ
+draining_by true false = 1
+draining_by given took_all = 0
+
+abbrev pub draining : TakenCounts → TraceState → ℕ
+draining took at = draining_by (given_up_at at) (nat_eq (to_take at.sent took Server) 0)

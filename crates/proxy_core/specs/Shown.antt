@@ -25,6 +25,12 @@ closes (note.CloseClient c) = true
 closes (note.Ended c dropped) = true
 closes other = false
 
+-- a note that the client's end is, or that it is over
+abbrev pub closes_for_good : Note → Bool
+closes_for_good (note.CloseClient c) = true
+closes_for_good (note.Ended c dropped) = true
+closes_for_good other = false
+
 -- a note that it is over
 abbrev pub ends_it : Note → Bool
 ends_it (note.Ended c dropped) = true

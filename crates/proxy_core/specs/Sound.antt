@@ -1,5 +1,5 @@
 -- What holds of the states that a past leads to, without a word of the core.
-use Rattle.std.specs.Prelude.{◌≡◌, ℕ, ◌<◌, ◌≤◌, List, [], ◌∷◌, ◌++◌, length, map, Bool, true, false}
+use Rattle.std.specs.Prelude.{◌≡◌, ◌⊎◌, ℕ, ◌+◌, ◌<◌, ◌≤◌, List, [], ◌∷◌, ◌++◌, length, map, Bool, true, false}
 use Rattle.std.specs.Prelude.{Some, is_some, nat_eq}
 use Rattle.std.specs.Bool.{MatchBool}
 use Rattle.std.specs.List.{IsDistinct, filter, list_any}
@@ -16,17 +16,16 @@ use Rattle.core_events.specs.declared.edges.EdgeState.TheVariants as state
 use Rattle.conn_trace.specs.Item.{Item, calls_in, cause_of, client_output, notes_of}
 use Rattle.conn_trace.specs.Item.{reasons_in, server_output}
 use Rattle.conn_trace.specs.Setup.{Setup}
-use Rattle.core_events.specs.Edges.{edge_of}
 use Rattle.conn_trace.specs.State.{Cut, ForReply, Over, TraceState, Waits}
 use Rattle.conn_trace.specs.Trace.{next_item, Unfolds, GivesNoMore}
 use Rattle.conn.specs.RunsItems.{is_cut}
-use Rattle.conn.specs.Settling.{is_drained, is_there, resting}
+use Rattle.conn.specs.Settling.{given_up_at, is_drained, is_there, resting}
 use Rattle.record_model.specs.History.{called_in}
 use Rattle.proxy_core.specs.Moves.{Leads}
 use Rattle.record_model.specs.Past.{Past, heard, shared}
 use Rattle.proxy_core.specs.Scheduler.{State, Seen, seen, untaken_all, untaken_of}
-use Rattle.proxy_core.specs.Shown.{shows, closes, ends_it, causes_told, causes_behind}
-use Rattle.proxy_core.specs.Servers.{Linked, OwnItems, licenses, took_of}
+use Rattle.proxy_core.specs.Shown.{shows, closes_for_good, ends_it, causes_told, causes_behind}
+use Rattle.proxy_core.specs.Servers.{LateServer, Linked, closed_servers, draining, given_up, licenses, took_of}
 use Rattle.record_model.specs.Setup.{setup_of, stand_of}
 use Rattle.run_config.specs.declared.config.Config.{Config}
 
@@ -53,13 +52,14 @@ abbrev pub is_closed : EdgeState → Bool
 is_closed state.Closed = true
 is_closed other = false
 
--- What is told of its ends, by whether it is live: it isn't over while it is, and nothing of it is
--- closed before it has finished; an end that is closed took all or was reset, unless it found no
+-- What is told of its ends, by whether it is live: it isn't over while it is, and its client's end
+-- isn't closed before it has finished; an end that is closed took all or was reset, unless it found no
 -- memory.
 pub record EndsTold (c : ℕ) (z : Seen) : Type 0 where
   pub while_live : z.live ≡ true → list_any ends_it z.heard.notes ≡ false
   pub over : z.live ≡ false → EndsClosed c (untaken_all z.heard z.place) z.heard
-  pub closed_has_finished : list_any closes z.heard.notes ≡ true → z.heard.finished ≡ true
+  pub closed_has_finished : list_any closes_for_good z.heard.notes ≡ true
+      → z.heard.finished ≡ true
   pub client_took_all : z.heard.failed ≡ false → is_closed z.heard.edges.client.state ≡ true
       → untaken_of z.heard z.place Client ≡ 0
   pub server_took_all : z.heard.failed ≡ false → is_closed z.heard.edges.server.state ≡ true
@@ -73,7 +73,7 @@ pub record TookWithin (h : Heard) (place : List Item) : Type 0 where
 -- it rests: no more may be given, no cut is due, it isn't over, and nothing is due to be told
 pub record Rested (g : Setup) (took : TakenCounts) (at : TraceState) (e : Edges) : Type 0 where
   pub gives_no_more : GivesNoMore false at.sent took (next_item g at)
-  pub no_cut : is_cut took at ≡ false
+  pub no_cut : is_cut g took at ≡ false
   pub not_over : is_drained g took at ≡ false
   pub told : (c dropped : ℕ) → resting g took at c e dropped ≡ []
 
@@ -99,9 +99,16 @@ pub record CallsTold (failed : Bool) (asked : List (List (List ℕ))) (place : L
   pub few : length unanswered ≤ 1
   pub open_now : failed ≡ false → unanswered ≡ asked
 
--- A connection that was accepted, by the state where it stands. The slices that it spent are paid for. While nothing failed an end is
--- closed where its trace is over alone; its server's end stands where the trace says; with HTTP none was asked for yet;
--- a cut was allowed.
+-- while nothing failed an end is closed where its trace is over alone, and the server's also where the
+-- server connection is given up
+pub record ClosedWhere (g : Setup) (at : TraceState) (e : Edges) : Type 0 where
+  pub client : is_closed e.client.state ≡ true → (next_item g at ≡ Over) × (at.finished ≡ true)
+  pub server : is_closed e.server.state ≡ true
+      → ((next_item g at ≡ Over) × (at.finished ≡ true)) ⊎ (given_up_at at ≡ true)
+
+-- A connection that was accepted, by the state where it stands. The slices that it spent are paid for.
+-- Its server's end stands where the trace says; before it has finished as many of its server connections
+-- are closed as were given up and took all; a cut was allowed.
 pub record ServedAt (g : Setup) (c : ℕ) (z : Seen) (at : TraceState) : Type 0 where
   pub stands : Unfolds g (start_of g z.heard) z.place at
   pub met : Met no_bytes (taken z.heard) z.place
@@ -111,11 +118,11 @@ pub record ServedAt (g : Setup) (c : ℕ) (z : Seen) (at : TraceState) : Type 0 
   pub causes : causes_told z.heard.notes
       ≡ map cause_of (reasons_in z.place) ++ causes_behind z.heard.failed
   pub ends : EndsTold c z
-  pub closed_over : z.heard.failed ≡ false → (side : Side)
-      → is_closed (edge_of side z.heard.edges).state ≡ true
-      → (next_item g at ≡ Over) × (at.finished ≡ true)
-  pub linked : Linked z.heard.finished at z.heard.edges.server.state
-  pub own : OwnItems g z.place
+  pub closed_over : z.heard.failed ≡ false → ClosedWhere g at z.heard.edges
+  pub linked : Linked z.heard.finished (taken z.heard) at z.heard.edges.server.state
+  pub late : LateServer z.heard.late z.heard.finished at z.heard.edges.server.state
+  pub drains : z.heard.finished ≡ false
+      → closed_servers z.heard.notes + draining (taken z.heard) at ≡ given_up z.place
   pub licensed : (cut : Cut) → z.heard.cut ≡ Some cut → licenses z.heard cut.reason ≡ true
   pub told : CallsTold z.heard.failed z.asked z.place z.heard.notes
   pub spot : Spot z.heard.failed z.live z.ready z.asked g (taken z.heard) at z.heard.edges

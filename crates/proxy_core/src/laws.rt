@@ -3,7 +3,7 @@
 ghost use Rattle.proxy_core.specs.Bounds.{BytesAreBounded};
 ghost use Rattle.proxy_core.specs.Fitting.{NotesFitEdges};
 ghost use Rattle.proxy_core.specs.Headline.{EveryPastMatches};
-ghost use Rattle.proxy_core.specs.OneServer.{OneServerIsMade};
+ghost use Rattle.proxy_core.specs.Numbered.{ServersAreNumbered};
 ghost use Rattle.proxy_core.specs.Others.{OnlyItsOwnChanges};
 
 /// For every configuration and every past that leads to a state of the scheduler: the bytes that
@@ -26,10 +26,10 @@ pub fn notes_fit_edges()
     ensures { NotesFitEdges }
 {}
 
-/// Behind every past, at most one server connection of a connection was made; what it took is
-/// within what was sent to it, and to one that wasn't heard of nothing was sent.
-pub fn one_server_is_made()
-    ensures { OneServerIsMade }
+/// Behind every past, what each server connection of a connection took is within what was sent to
+/// it, and to one that wasn't heard of nothing was sent.
+pub fn servers_are_numbered()
+    ensures { ServersAreNumbered }
 {}
 
 /// Behind every past, of each side of a connection no more than 65,536 bytes lie unread, and fewer

@@ -28,5 +28,6 @@ pub use choices::choices_determine;
 pub use core_events::{BadEvent, Cause, Event, Note, Notes};
 pub use core_state::Core;
 pub use laws::{
-    bytes_are_bounded, notes_fit_edges, one_server_is_made, only_changed, output_matches_evaluator,
+    bytes_are_bounded, notes_fit_edges, only_changed, output_matches_evaluator,
+    servers_are_numbered,
 };

@@ -4,6 +4,8 @@ use Rattle.std.proofs.Math.Seq.{take-add}
 use Rattle.std.proofs.lemmas.List.{append-nil}
 use Rattle.px_outside.specs.Net.{Call}
 use Rattle.px_bytes.specs.declared.addr.Side.{Side}
+use Rattle.px_bytes.specs.declared.addr.Side.TheVariants.{Client, Server}
+use Rattle.conn_trace.specs.Item.{client_output}
 use Rattle.core_events.specs.declared.event.Event.{Event}
 use Rattle.record_model.specs.Past.{Past, heard}
 use Rattle.proxy_core.specs.Represents.{Represents}
@@ -18,9 +20,9 @@ use Rattle.serve_loop.specs.Server.{Running}
 use Rattle.serve_loop.specs.Walk.{Around, Step, Own, Asked}
 use Rattle.serve_loop.specs.declared.fault.ServeFault.{ServeFault}
 use Rattle.serve_loop.specs.declared.fault.ServeFault.TheVariants as fault
-use Rattle.served_core.proofs.Pieces.{PiecesAre, call_pieces, own_pieces, told_pieces, took_side, untaken}
+use Rattle.served_core.proofs.Pieces.{PiecesAre, call_pieces, own_pieces, taken, told_pieces, untaken}
 use Rattle.served_core.proofs.Promising.{StandsFor, begins_with, event_past, keeps_by, none_taken, same_took, walks_past}
-use Rattle.served_core.specs.Pieces.{piece_of, pieces_of, sent_side, ungiven_piece}
+use Rattle.served_core.specs.Pieces.{piece_of, pieces_of, took_more, ungiven_piece}
 use Rattle.proxy_core.specs.Face.{core_face}
 use Rattle.served_core.specs.Serves.{EventsSome, Starts, past_after, started}
 
@@ -67,9 +69,13 @@ ungiven_by C conns short (Ungiven call e) past s a core it r side c =
 ungiven_by C conns short (OwnSome g) past s a core it r side c = (0, refl)
 ungiven_by C conns short (AskedSome call g) past s a core it r side c = (0, refl)
 
-front_more : (t n : ℕ) (sent pieces more : List ℕ) → pieces ≡ take t sent → more ≡ take n (drop t sent) → pieces ++ more ≡ take (t + n) sent
-front_more t n sent pieces more p m =
+-- behind what it took
+front_more : (past : Past) (s : State) (side : Side) (c n : ℕ) (pieces more : List ℕ) → pieces ≡ taken past s side c → more ≡ take n (untaken past s side c) → pieces ++ more ≡ took_more side n (heard c past) (s.places c)
+front_more past s Client c n pieces more p m =
+    let t = (heard c past).client.took in
+    let sent = client_output (s.places c) in
     ap (λ (l : List ℕ). l ++ more) p ∙ ap (λ (l : List ℕ). take t sent ++ l) m ∙ sym (take-add t n sent)
+front_more past s Server c n pieces more p m = ap (λ (l : List ℕ). l ++ more) p ∙ ap (λ (l : List ℕ). taken past s Server c ++ l) m
 
 pub kept_some : {S T : Type 0} {did : S → Call → S → Type 0} {gave : S → ℕ → Type 0} {why : ServeFault} {C : Config} {conns : ℕ} {net : S}
     (start : Starts did C conns net) (clock : T) (before : Option (List ℕ)) (new : Running Core S T)
@@ -97,10 +103,9 @@ kept_some {gave = gave} {C = C} start clock before new walked =
       steps_are = refl;
       keeps = keeps_by C all core past;
       ungiven = λ side c.
-          let took = took_side side (heard c (past_after all [])) in
           let more = ungiven_by C first.conns done.short walk.broken (past_after all []) past.state walk.mid core walk.breaks past.represents side c in (
-            took + more.0,
-            front_more took more.0 (sent_side side (past.state.places c)) (pieces_of c side all) (ungiven_piece c side walk.broken) (past.each side c) more.1,
+            more.0,
+            front_more (past_after all []) past.state side c more.0 (pieces_of c side all) (ungiven_piece c side walk.broken) (past.each side c) more.1,
           );
     }
 

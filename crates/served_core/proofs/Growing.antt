@@ -164,7 +164,7 @@ fits C past s core (Marks pool member up) c r fine = plain_fits C past s core c 
 
 -- ---- both
 
-grown : (sent : Item → List ℕ) (t : ℕ) (p more : List Item) → t ≤ length (flat_map sent p) → take t (flat_map sent (p ++ more)) ≡ take t (flat_map sent p)
+pub grown : (sent : Item → List ℕ) (t : ℕ) (p more : List Item) → t ≤ length (flat_map sent p) → take t (flat_map sent (p ++ more)) ≡ take t (flat_map sent p)
 grown sent t p more le = ap (take t) (flat_map-append sent p more) ∙ take-append-le t (flat_map sent p) (flat_map sent more) le
 
 -- what was taken before and one piece more is what is taken then, of what items send

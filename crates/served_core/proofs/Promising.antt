@@ -8,15 +8,15 @@ use Rattle.px_bytes.specs.declared.addr.Side.{Side}
 use Rattle.px_bytes.specs.declared.addr.Side.TheVariants.{Client, Server}
 use Rattle.core_events.specs.declared.note.Note.{Note}
 use Rattle.conn_trace.specs.Heard.{hears}
-use Rattle.conn_trace.specs.Item.{to_client, to_server}
+use Rattle.conn_trace.specs.Item.{to_client}
 use Rattle.proxy_core.specs.Represents.{Represents}
 use Rattle.core_events.specs.Kinds.{kind_of}
 use Rattle.record_model.specs.Past.{Happened, Past, heard}
 use Rattle.proxy_core.specs.Steps.{KeepsStanding}
 use Rattle.proxy_core.specs.Moves.{MovesBy}
 use Rattle.proxy_core.specs.Refusal.{refused}
-use Rattle.proxy_core.specs.Scheduler.{State, last_took, no_connections}
-use Rattle.proxy_core.proofs.OneServer.{one_server}
+use Rattle.proxy_core.specs.Scheduler.{State, no_connections}
+use Rattle.proxy_core.proofs.Numbered.{servers_are_numbered}
 use Rattle.run_config.specs.declared.config.Config.{Config}
 use Rattle.proxy_core.specs.declared.core_state.Core.{Core}
 use Rattle.proxy_core.proofs.Promises.{every_past_matches}
@@ -31,7 +31,7 @@ use Rattle.serve_loop.specs.declared.fault.ServeFault.{ServeFault}
 use Rattle.serve_loop.proofs.Failing.{either_later}
 use Rattle.served_core.proofs.Growing.{fits, grows, heard_took, one_more, took_in}
 use Rattle.served_core.proofs.SendsInRuns.{core_sends_in_runs}
-use Rattle.served_core.proofs.ServerGrowing.{first_made, server_fits, server_heard, server_in}
+use Rattle.served_core.proofs.ServerGrowing.{servers_then}
 use Rattle.served_core.proofs.Pieces.{PiecesAre, call_pieces, own_pieces, taken, told_pieces}
 use Rattle.served_core.specs.Pieces.{piece_of, pieces_of}
 use Rattle.proxy_core.specs.Face.{TakesEvent, core_face}
@@ -60,16 +60,8 @@ took_then C past s next core new e group took piece r fine moves r' pieces each 
     (s.places c) grown.more (next.places c) (each Client c) (pieces.is Client c) (fits C past s core v c r fine)
     (heard_took c (heard c past) v group) grown.place
 took_then C past s next core new e group took piece r fine moves r' pieces each Server c =
-    let v = kind_of e in
-    let x : Happened = record { event = e; group = group } in
-    let before = last_took (heard c past).connects in
-    let after = last_took (hears c (heard c past) v group).connects in
-    let grown = grows C past v group s next moves c in
-    let one' = one_server C (x ∷ past) next r'.sound.leads c in
-    let sum = server_heard c (heard c past) v group (pieces.first c) (first_made c past x one'.once) in
-    one_more (to_server 1) before (server_in c v) after (took Server c) (piece Server c) (s.places c) grown.more (next.places c)
-    (each Server c) (pieces.is Server c)
-    (server_fits C past s next v group c after (one_server C past s r.sound.leads c) moves sum one'.within) sum grown.place
+    ap (λ (l : List ℕ). l ++ piece Server c) (each Server c) ∙ ap (λ (l : List ℕ). taken past s Server c ++ l) (pieces.is Server c)
+    ∙ sym (servers_then C past s next (kind_of e) group c (servers_are_numbered C past s r.sound.leads c) moves (pieces.first c) (pieces.on_time c))
 
 -- an event, and the piece that each side took with it
 pub event_past : (C : Config) (past : Past) (took piece : Side → ℕ → List ℕ) (e : Event) (a : Core) (g : Given) (b : Core) → g.event ≡ e → TakesEvent a e

@@ -1,5 +1,5 @@
 -- What was heard of the sides of a connection only rises, event by event.
-use Rattle.std.proofs.Common.{◌≡◌, ◌⊎◌, ℕ, ◌+◌, ◌≤◌, List, [], ◌∷◌, ◌++◌, Bool, true, false, ◌||◌, Option, Some, None, nat_eq, if◌then◌else◌}
+use Rattle.std.proofs.Common.{◌≡◌, ◌⊎◌, ℕ, suc, ◌+◌, ◌≤◌, List, [], ◌∷◌, ◌++◌, Bool, true, false, ◌||◌, Option, Some, None, nat_eq, if◌then◌else◌}
 use Rattle.std.proofs.Common.{inl, inr, refl, ap, sym, ◌∙◌, arith, append-nil}
 use Rattle.px_bytes.specs.declared.addr.Side.TheVariants.{Client, Server}
 use Rattle.core_events.specs.declared.event_kind.EventKind.{EventKind}
@@ -8,11 +8,12 @@ use Rattle.core_events.specs.declared.event_kind.EventKind.TheVariants.{Turns, R
 use Rattle.core_events.specs.declared.input.Input.{Input}
 use Rattle.core_events.specs.declared.input.Input.TheVariants.{Bytes, Ends, Resets, Connects, Takes}
 use Rattle.core_events.specs.declared.note.Note.{Note}
-use Rattle.conn_trace.specs.Heard.{Heard, SideHeard, accepts, at_last, brings_in, brought, brought_nothing, event_brings, event_marks, has_made, hears, hears_by, hears_more, marks}
+use Rattle.conn_trace.specs.Heard.{Heard, SideHeard, accepts, at_last, brings_in, brought, brought_nothing, event_brings, event_marks, has_made, hears, hears_by, hears_more, marks, unless_late}
 use Rattle.conn_trace.specs.Further.{Coming}
 use Rattle.conn_trace.specs.Tellings.{finish_told, notes_about}
 use Rattle.proxy_core.specs.Scheduler.{last_took}
-use Rattle.proxy_core.specs.Servers.{last_reset}
+use Rattle.proxy_core.specs.Servers.{last_reset, made}
+use Rattle.proxy_core.proofs.HeardServers.{joined_made}
 use Rattle.proxy_core.proofs.Meeting.{made_last, took_refused}
 
 reset_same : (b : Bool) (k : Coming) (s : SideHeard) → (hears_by b k s).reset ≡ s.reset
@@ -45,17 +46,18 @@ heard_client_reset c h v group e =
 pub record Risen (old new : List (Option SideHeard)) : Type 0 where
   pub took : last_took old ≤ last_took new
   pub reset : last_reset new ≡ false → last_reset old ≡ false
+  pub same : made new ≡ made old
 
 risen_same : (old new : List (Option SideHeard)) → new ≡ old → Risen old new
-risen_same old new e = let t = ap last_took e in record { took = omega (arith, t); reset = λ r. sym (ap last_reset e) ∙ r }
+risen_same old new e = let t = ap last_took e in record { took = omega (arith, t); reset = λ r. sym (ap last_reset e) ∙ r; same = ap made e }
 
 risen_then : (old mid new : List (Option SideHeard)) → Risen old mid → Risen mid new → Risen old new
-risen_then old mid new p q = let x = p.took in let y = q.took in record { took = omega (arith, x, y); reset = λ r. p.reset (q.reset r) }
+risen_then old mid new p q = let x = p.took in let y = q.took in record { took = omega (arith, x, y); reset = λ r. p.reset (q.reset r); same = q.same ∙ p.same }
 
 last_risen : (f : SideHeard → SideHeard) → ((s : SideHeard) → s.took ≤ (f s).took) → ((s : SideHeard) → (f s).reset ≡ false → s.reset ≡ false)
     → (cs : List (Option SideHeard)) → Risen cs (at_last f cs)
 last_risen f took reset [] = risen_same [] [] refl
-last_risen f took reset (None ∷ more) = let r = last_risen f took reset more in record { took = r.took; reset = r.reset }
+last_risen f took reset (None ∷ more) = let r = last_risen f took reset more in record { took = r.took; reset = r.reset; same = r.same }
 last_risen f took reset (Some s ∷ more) =
     by (has_made more) refl (last_risen f took reset more)
   where
@@ -68,6 +70,7 @@ last_risen f took reset (Some s ∷ more) =
           took = omega (arith, x, y, z);
           reset = λ e. ap (λ b. if b then last_reset more else s.reset) made
               ∙ r.reset (sym (ap (λ b. if b then last_reset (at_last f more) else (if has_made more then s else f s).reset) (made_last f more ∙ made)) ∙ e);
+          same = ap suc r.same;
         }
     by false none r =
         let x = ap (λ b. if b then last_took more else s.took) none in
@@ -79,6 +82,7 @@ last_risen f took reset (Some s ∷ more) =
           reset = λ e. ap (λ b. if b then last_reset more else s.reset) none
               ∙ reset s (sym (ap (λ b. if b then last_reset (at_last f more) else (if has_made more then s else f s).reset) (made_last f more ∙ none)
               ∙ ap (λ b. (if b then s else f s).reset) none) ∙ e);
+          same = ap suc r.same;
         }
 
 same_more : (n : ℕ) → n ≤ n
@@ -87,14 +91,19 @@ same_more n = omega arith
 plus_more : (n k : ℕ) → n ≤ n + k
 plus_more n k = omega arith
 
+unless_risen : (late : Bool) (f : SideHeard → SideHeard) → ((s : SideHeard) → s.took ≤ (f s).took) → ((s : SideHeard) → (f s).reset ≡ false → s.reset ≡ false)
+    → (cs : List (Option SideHeard)) → Risen cs (unless_late late f cs)
+unless_risen true f took reset cs = risen_same cs cs refl
+unless_risen false f took reset cs = last_risen f took reset cs
+
 marks_risen : (i : Input) (h : Heard) → Risen h.connects (marks i h).connects
 marks_risen (Bytes side bytes) h = risen_same h.connects h.connects refl
 marks_risen (Ends side) h = risen_same h.connects h.connects refl
 marks_risen (Resets Client) h = risen_same h.connects h.connects refl
-marks_risen (Resets Server) h = last_risen (λ s. record s { reset = true }) (λ s. same_more s.took) (λ s e. cc) h.connects
+marks_risen (Resets Server) h = unless_risen h.late (λ s. record s { reset = true }) (λ s. same_more s.took) (λ s e. cc) h.connects
 marks_risen (Connects made) h = risen_same h.connects h.connects refl
 marks_risen (Takes Client n) h = risen_same h.connects h.connects refl
-marks_risen (Takes Server n) h = last_risen (λ s. record s { took = s.took + n }) (λ s. plus_more s.took n) (λ s e. e) h.connects
+marks_risen (Takes Server n) h = unless_risen h.late (λ s. record s { took = s.took + n }) (λ s. plus_more s.took n) (λ s e. e) h.connects
 
 marks_by : (b : Bool) (i : Input) (h : Heard) → Risen h.connects (if b then marks i h else h).connects
 marks_by true i h = marks_risen i h
@@ -113,7 +122,7 @@ event_risen c Runs h = risen_same h.connects h.connects refl
 event_risen c (Marks pool member up) h = risen_same h.connects h.connects refl
 
 -- no answer of a server is new, or that there is none
-abbrev FewNew : List (Option SideHeard) → Type 0
+abbrev pub FewNew : List (Option SideHeard) → Type 0
 FewNew new = (new ≡ []) ⊎ (new ≡ None ∷ [])
 
 made_refused : (cs : List (Option SideHeard)) → has_made (cs ++ None ∷ []) ≡ has_made cs
@@ -133,6 +142,7 @@ new_risen cs new (inr e) =
     let t = ap (λ (l : List (Option SideHeard)). last_took (cs ++ l)) e ∙ took_refused cs in record {
       took = omega (arith, t);
       reset = λ r. sym (ap (λ (l : List (Option SideHeard)). last_reset (cs ++ l)) e ∙ reset_refused cs) ∙ r;
+      same = (let j = ap (λ (l : List (Option SideHeard)). made (cs ++ l)) e ∙ joined_made cs (None ∷ []) in omega (arith, j));
     }
 
 -- a server isn't answered
@@ -140,7 +150,7 @@ abbrev pub NoServer : EventKind → ℕ → Type 0
 NoServer (Comes d (Connects true)) c = nat_eq d c ≡ false
 NoServer v c = Unit {0}
 
-brings_few : (i : Input) (d c : ℕ) → NoServer (Comes d i) c → (b : Bool) → nat_eq d c ≡ b → FewNew (if b then brings_in i else brought_nothing).connects
+pub brings_few : (i : Input) (d c : ℕ) → NoServer (Comes d i) c → (b : Bool) → nat_eq d c ≡ b → FewNew (if b then brings_in i else brought_nothing).connects
 brings_few i d c clash false is = inl refl
 brings_few (Bytes Client bytes) d c clash true is = inl refl
 brings_few (Bytes Server bytes) d c clash true is = inl refl
@@ -159,7 +169,7 @@ event_few c Turns clash = inl refl
 event_few c Runs clash = inl refl
 event_few c (Marks pool member up) clash = inl refl
 
-brought_few : (b : Bool) (c : ℕ) (v : EventKind) → NoServer v c → FewNew (if b then brought_nothing else event_brings c v).connects
+pub brought_few : (b : Bool) (c : ℕ) (v : EventKind) → NoServer v c → FewNew (if b then brought_nothing else event_brings c v).connects
 brought_few true c v clash = inl refl
 brought_few false c v clash = event_few c v clash
 

@@ -1,6 +1,6 @@
 -- Something gets pending to a connection of the core in its own Run alone.
 use Rattle.std.proofs.Common.{◌≡◌, ◌⊎◌, ℕ, ◌+◌, ◌-◌, ◌≤◌, ◌<◌, List, [], ◌∷◌, ◌++◌, length, drop, Bool, true, false, ◌||◌, Some, None, nat_eq, if◌then◌else◌}
-use Rattle.std.proofs.Common.{inl, inr, refl, ap, sym, ◌∙◌, subst, arith}
+use Rattle.std.proofs.Common.{inl, inr, refl, ap, sym, ◌∙◌, subst, arith, append-nil, not, true≢false, Option, None}
 use Rattle.std.specs.Prelude.{slice_get}
 use Rattle.std.specs.Bool.{MatchBool}
 use Rattle.std.specs.List.{list_any}
@@ -20,14 +20,22 @@ use Rattle.core_events.specs.declared.note.Note.{Note}
 use Rattle.core_events.specs.declared.note.Note.TheVariants as note
 use Rattle.core_events.specs.declared.note.Cause.TheVariants.{Memory}
 use Rattle.core_events.specs.declared.edges.Edges.{Edges}
-use Rattle.core_events.specs.Edges.{edge_of, may_take, no_edges}
+use Rattle.core_events.specs.Edges.{edge_of, is_connecting, may_take, no_edges}
 use Rattle.core_events.specs.Face.{took_event, reset_event}
 use Rattle.core_events.specs.Kinds.{kind_of}
-use Rattle.conn_trace.specs.Gates.{no_bytes, sent_from}
+use Rattle.conn_trace.specs.Gates.{no_bytes, sent_from, taken_of, to_take, untaken}
+use Rattle.conn_trace.specs.State.{TraceState}
+use Rattle.conn.specs.Ends.{is_taken}
+use Rattle.conn.specs.Holds.{HoldsEnds}
+use Rattle.conn.specs.declared.connection.Conn.{Conn}
+use Rattle.proxy_core.specs.Live.{edges_by_conn}
+use Rattle.proxy_core.specs.Refusals.{live_at}
+use Rattle.proxy_core.specs.Sound.{Served}
+use Rattle.proxy_core.specs.declared.live.Live.{Live}
 use Rattle.conn.specs.Settling.{given_up_at, is_over, settling_at, took_all}
-use Rattle.conn_trace.specs.Heard.{Heard, edges_met, event_edges, hears, taken}
+use Rattle.conn_trace.specs.Heard.{Heard, SideHeard, at_last, brings_in, brought_nothing, edges_met, event_brings, event_edges, event_marks, fresh_side, hears, hears_by, hears_more, marks, servers_taken, side_taken, taken}
 use Rattle.conn_trace.specs.Item.{client_output, server_output}
-use Rattle.conn_trace.specs.Tellings.{conn_of, own}
+use Rattle.conn_trace.specs.Tellings.{conn_of, finish_told, notes_about, own}
 use Rattle.conn_trace.specs.Trace.{next_item}
 use Rattle.proxy_core.specs.Asked.{queue_at}
 use Rattle.proxy_core.specs.Face.{Stands, core_face}
@@ -39,9 +47,9 @@ use Rattle.record_model.specs.Past.{Happened, Past, ended_in, heard, shared, wit
 use Rattle.proxy_core.specs.Questions.{to_write}
 use Rattle.proxy_core.specs.Ready.{is_in}
 use Rattle.proxy_core.specs.Refusal.{refused}
-use Rattle.proxy_core.specs.Represents.{Represents}
-use Rattle.proxy_core.specs.Scheduler.{State, Seen, last_took, pending, seen, untaken_all}
-use Rattle.proxy_core.specs.Servers.{last_reset}
+use Rattle.proxy_core.specs.Represents.{AgreesAt, ConnectionContinues, Represents, around}
+use Rattle.proxy_core.specs.Scheduler.{State, Seen, last_took, pending, seen, untaken_all, untaken_of}
+use Rattle.proxy_core.specs.Servers.{last_reset, made}
 use Rattle.record_model.specs.Setup.{setup_of, stand_of}
 use Rattle.proxy_core.specs.Steps.{StandsAfter}
 use Rattle.proxy_core.specs.declared.call.Asked.{Asked}
@@ -51,17 +59,20 @@ use Rattle.proxy_core.proofs.Framing.{only_changed, touches}
 use Rattle.proxy_core.proofs.GroupNotes.{About, AreDue, IsDue, settling_due}
 use Rattle.proxy_core.proofs.Fresh.{not_accepted}
 use Rattle.proxy_core.proofs.Members.{eq_same, eq_self}
-use Rattle.proxy_core.proofs.OneServer.{one_server}
+use Rattle.proxy_core.proofs.HeardServers.{joined_made, last_made}
+use Rattle.proxy_core.proofs.Meeting.{heard_connects, taken_keeps}
+use Rattle.proxy_core.proofs.Numbered.{servers_are_numbered}
+use Rattle.proxy_core.proofs.SoundComes.{MayCome}
+use Rattle.proxy_core.proofs.SoundPast.{may_come_at}
 use Rattle.proxy_core.proofs.Promises.{every_past_matches}
-use Rattle.proxy_core.proofs.Standing.{is_served}
+use Rattle.proxy_core.proofs.Standing.{as_live, is_served, sent_at}
 use Rattle.serve_loop.specs.Carrying.{action}
 use Rattle.serve_loop.specs.Pending.{IsPending, IsRunOf, Moved, SendsInRuns, server_asked, servers_asked}
 use Rattle.served_core.proofs.Fronts.{IsOpen, NotAnswer, all_left_in, is_pending, met_opens, met_resets, notes_open, opened, queue_length, shows_all, write_of}
 use Rattle.served_core.proofs.Growing.{come_stays, heard_took, took_in}
-use Rattle.served_core.proofs.Pieces.{queued, took_side}
+use Rattle.served_core.proofs.Pieces.{of_last, queued}
 use Rattle.served_core.proofs.Risen.{NoServer, Risen, heard_client_reset, heard_risen}
-use Rattle.served_core.proofs.ServerGrowing.{first_made, server_heard, server_in}
-use Rattle.served_core.specs.Pieces.{sent_side}
+use Rattle.served_core.proofs.ServerGrowing.{last_heard}
 
 -- an event moved the core on from one past that it stands for to the next
 pub record Steps (x : Happened) (a b : Core) (C : Config) (past : Past) (s next : State) : Type 0 where
@@ -166,8 +177,8 @@ module _ (x : Happened) (a b : Core) (C : Config) (past : Past) (s next : State)
       by r true e e' = absurd (none_less _ ((counts_then c live').server_reset e') some)
       by true false e e' = let clash : true ≡ false = sym e ∙ risen.reset e' in cc
       by false false e e' =
-          let sum = (counts_then c live').server_sent e' ∙ ap (λ p. (sent_from no_bytes p).server) stays in
-          some_less (last_took h.connects) (last_took (heard c (x ∷ past)).connects) _ _ (sent_from no_bytes (s.places c)).server risen.took sum
+          let sum = (counts_then c live').server_sent e' ∙ ap (λ p. length (server_output (made (heard c (x ∷ past)).connects) p)) stays ∙ ap (λ n. length (server_output n (s.places c))) risen.same in
+          some_less (last_took h.connects) (last_took (heard c (x ∷ past)).connects) _ _ (length (server_output (made h.connects) (s.places c))) risen.took sum
           ((counts c live).server_sent e) some
 
   -- of which the loop sees as much
@@ -208,29 +219,100 @@ module _ (x : Happened) (a b : Core) (C : Config) (past : Past) (s next : State)
       let z = ap length none in omega (arith, l, z, some)
 
   -- of which nothing was sent nothing is pending
-  none_pending : (c : ℕ) (side : Side) → sent_side side (next.places c) ≡ [] → 0 < length (to_write (x ∷ past) next c side) → ⊥
-  none_pending c side none some =
-      nothing_left (took_side side (heard c (x ∷ past))) (sent_side side (next.places c)) (to_write (x ∷ past) next c side) none
-      (queued C (x ∷ past) next b c side (to_write (x ∷ past) next c side) w.behind refl some) some
-
-  none_sent : (side : Side) → sent_side side [] ≡ []
-  none_sent Client = refl
-  none_sent Server = refl
+  none_pending : (c : ℕ) (side : Side) → next.places c ≡ [] → 0 < length (to_write (x ∷ past) next c side) → ⊥
+  none_pending c Client none some =
+      nothing_left (heard c (x ∷ past)).client.took (client_output (next.places c)) (to_write (x ∷ past) next c Client) (ap client_output none)
+      (queued C (x ∷ past) next b c Client (to_write (x ∷ past) next c Client) w.behind refl some) some
+  none_pending c Server none some =
+      let cs = (heard c (x ∷ past)).connects in
+      nothing_left (last_took cs) (server_output (made cs) (next.places c)) (to_write (x ∷ past) next c Server) (ap (server_output (made cs)) none)
+      (queued C (x ∷ past) next b c Server (to_write (x ∷ past) next c Server) w.behind refl some) some
 
   none_accepted : (d : ℕ) (vs : List ℕ) (from : Addr) → V ≡ Accepts d vs from → next.places d ≡ s.places d → (side : Side)
       → 0 < length (to_write (x ∷ past) next d side) → ⊥
   none_accepted d vs from e stays side some =
       let new = not_accepted C past d vs from s w.before.sound (ap (refused C past s) (sym e) ∙ w.fine) in
       let none : next.places d ≡ [] = stays ∙ ap (λ z. z.place) new in
-      none_pending d side (ap (sent_side side) none ∙ none_sent side) some
+      none_pending d side none some
 
-  -- where the first server of a connection is made nothing was sent to it
+  -- where a server is asked for nothing is pending
+  asked_none : (c : ℕ) → (Z c).live ≡ true → is_connecting (Z c).heard.edges.server.state ≡ true → pending past s c Server ≡ 0
+  asked_none c live connecting = by_live (live_at a.live.items c) (w.before.agrees.each c)
+    where
+      z : Seen
+      z = Z c
+
+      k : Served C c z
+      k = as_live C c z live (w.before.sound.each c)
+
+      at : TraceState
+      at = stand_of C z.heard z.place
+
+      by_ends : (conn : Conn) → HoldsEnds (around z.heard) at conn.ends → z.heard.edges ≡ conn.ends.edges → pending past s c Server ≡ 0
+      by_ends conn held same =
+          let asked = held.connecting (ap (λ e. is_connecting e.server.state) (sym same) ∙ connecting) in
+          ap (λ x. to_take x (taken z.heard) Server) (sym (sent_at (setup_of C z.heard) z.heard z.place at k.stands)) ∙ held.took_all (ap is_taken asked)
+
+      by_conn : (o : Option Conn) (edges : Edges) → ConnectionContinues C z o → z.heard.edges ≡ edges_by_conn o edges → pending past s c Server ≡ 0
+      by_conn None edges m same = ap (λ p. untaken_of z.heard p Server) m.no_items
+      by_conn (Some conn) edges (inl m) same = by_ends conn m.holds.ends same
+      by_conn (Some conn) edges (inr m) same = by_ends conn m.ends same
+
+      by_live : (o : Option Live) → AgreesAt C z o → pending past s c Server ≡ 0
+      by_live None m = absurd (true≢false (sym live ∙ m))
+      by_live (Some l) m = by_conn l.conn l.edges m.continues m.edges
+
+  -- where a server of a connection is made nothing was sent to it
   none_made : (c d : ℕ) → V ≡ Comes d (Connects true) → nat_eq d c ≡ true → next.places c ≡ s.places c
       → 0 < length (to_write (x ∷ past) next c Server) → ⊥
-  none_made c d e is stays some =
-      let once = (one_server C (x ∷ past) next w.behind.sound.leads c).once in
-      let none = (one_server C past s w.before.sound.leads c).unsent (first_made c past x once d e is) in
-      none_pending c Server (ap (λ p. server_output 1 p) stays ∙ none) some
+  none_made c d e is stays some = by (h.finished || finish_told (notes_about c x.group)) refl
+    where
+      h : Heard
+      h = heard c past
+
+      now : List (Option SideHeard)
+      now = (heard c (x ∷ past)).connects
+
+      kind : V ≡ Comes c (Connects true)
+      kind = e ∙ ap (λ n. Comes n (Connects true)) (eq_same d c is)
+
+      may : MayCome C c (Connects true) (Z c)
+      may = may_come_at C past s c (Connects true) (w.before.sound.each c) (ap (refused C past s) (sym kind) ∙ w.fine)
+
+      -- what it brings, by whether it has finished
+      heard_by : Bool → EventKind → List (Option SideHeard)
+      heard_by f v = heard_connects (if f then brought_nothing else event_brings c v) (event_marks c v h)
+
+      is_heard : (f : Bool) → (h.finished || finish_told (notes_about c x.group)) ≡ f → now ≡ heard_connects (if f then brought_nothing else brings_in (Connects true)) h
+      is_heard f told =
+          ap (λ b. heard_by b V) told ∙ ap (heard_by f) kind
+          ∙ ap (λ b. heard_connects (if f then brought_nothing else (if b then brings_in (Connects true) else brought_nothing)) (if b then marks (Connects true) h else h)) (eq_self c)
+
+      side_same : (s : SideHeard) → side_taken (hears_more brought_nothing.server s) ≡ side_taken s
+      side_same s = by_end s.ended
+        where
+          by_end : (b : Bool) → side_taken (hears_by b brought_nothing.server s) ≡ side_taken s
+          by_end true = refl
+          by_end false = refl
+
+      connecting : (b : Bool) → not b ≡ false → b ≡ true
+      connecting true n = refl
+      connecting false n = absurd (true≢false n)
+
+      by : (f : Bool) → (h.finished || finish_told (notes_about c x.group)) ≡ f → ⊥
+      by true told =
+          let took : servers_taken now ≡ servers_taken h.connects = ap servers_taken (is_heard true told ∙ append-nil (at_last (hears_more brought_nothing.server) h.connects)) ∙ taken_keeps (hears_more brought_nothing.server) side_same h.connects in
+          let same : pending (x ∷ past) next c Server ≡ pending past s c Server =
+          ap (λ p. untaken_of (heard c (x ∷ past)) p Server) stays ∙ ap (λ ts. untaken (sent_from no_bytes (s.places c)).server (taken_of ts (sent_from no_bytes (s.places c)).number)) took in
+          let o = opened (Z' c).live (Z' c).heard.edges Server (queue_at (Z' c).heard (Z' c).place Server) some in
+          none_less (pending (x ∷ past) next c Server) (same ∙ asked_none c may.live (connecting (is_connecting h.edges.server.state) may.asked)) (pending_sees c Server o)
+      by false told =
+          let cs = at_last (hears_more (brings_in (Connects true)).server) h.connects in
+          let joined = ap made (is_heard false told) ∙ joined_made cs (Some fresh_side ∷ []) in
+          let last = last_made (hears_more (brings_in (Connects true)).server) h.connects in
+          let none : server_output (made now) (s.places c) ≡ [] = (servers_are_numbered C past s w.before.sound.leads c).unsent (made now) (omega (arith, joined, last)) in
+          nothing_left (last_took now) (server_output (made now) (next.places c)) (to_write (x ∷ past) next c Server) (ap (server_output (made now)) stays ∙ none)
+          (queued C (x ∷ past) next b c Server (to_write (x ∷ past) next c Server) w.behind refl some) some
 
   -- an input answers no server, or tells that one is there
   clear : (i : Input) (side : Side) → (NotAnswer i side × ((d c : ℕ) → Unanswered side (Comes d i) c)) ⊎ ((i ≡ Connects true) × (side ≡ Server))
@@ -328,23 +410,30 @@ module _ (x : Happened) (a b : Core) (C : Config) (past : Past) (s next : State)
           come_stays C (Takes side n) h (hears c h (Comes c (Takes side n)) x.group) c x.group s next c h.failed
           (subst (λ k. MovesBy C past k x.group s next) e w.moves)
 
-      took_server : (n : ℕ) → V ≡ Comes c (Takes Server n) → 0 < length (to_write past s c Server)
-          → last_took (heard c (x ∷ past)).connects ≡ last_took (heard c past).connects + n
-      took_server n e some =
-          let one = one_server C past s w.before.sound.leads c in
-          let once = (one_server C (x ∷ past) next w.behind.sound.leads c).once in
-          let there = queued C past s a c Server (to_write past s c Server) w.before refl some in
-          server_heard c (heard c past) V x.group (λ none. absurd (nothing_left (last_took (heard c past).connects) (server_output 1 (s.places c)) _ (one.unsent none) there some))
-          (first_made c past x once)
-          ∙ ap (λ k. last_took (heard c past).connects + k) (ap (server_in c) e ∙ ap (λ b. if b then n else 0) (eq_self c))
+      out : Side → List ℕ
+      out Client = client_output (s.places c)
+      out Server = server_output (made (heard c past).connects) (s.places c)
 
-      took_client : (n : ℕ) → V ≡ Comes c (Takes Client n) → (heard c (x ∷ past)).client.took ≡ (heard c past).client.took + n
-      took_client n e = heard_took c (heard c past) V x.group ∙ ap (λ k. (heard c past).client.took + k) (ap (took_in c) e ∙ ap (λ b. if b then n else 0) (eq_self c))
-
-      took_more : (side : Side) (n : ℕ) → V ≡ Comes c (Takes side n) → 0 < length (to_write past s c side)
-          → took_side side (heard c (x ∷ past)) ≡ took_side side (heard c past) + n
-      took_more Client n e some = took_client n e
-      took_more Server n e some = took_server n e some
+      -- what it took before and takes
+      left : (side : Side) (n : ℕ) → V ≡ Comes c (Takes side n) → 0 < length (to_write past s c side) → 0 < length (to_write (x ∷ past) next c side)
+          → length (to_write (x ∷ past) next c side) ≤ length (to_write past s c side) - n
+      left Client n e was some =
+          let h = heard c past in
+          let one = ap length (queued C past s a c Client (to_write past s c Client) w.before refl was) ∙ length-drop h.client.took (out Client) in
+          let two = ap length (queued C (x ∷ past) next b c Client (to_write (x ∷ past) next c Client) w.behind refl some) ∙ length-drop (heard c (x ∷ past)).client.took (client_output (next.places c)) in
+          let same = ap (λ p. length (client_output p)) stays in
+          let took = heard_took c h V x.group ∙ ap (λ k. h.client.took + k) (ap (took_in c) e ∙ ap (λ b. if b then n else 0) (eq_self c)) in
+          omega (arith, one, two, same, took)
+      left Server n e was some =
+          let h = heard c past in
+          let now = (heard c (x ∷ past)).connects in
+          let there = of_last C past s a c (to_write past s c Server) w.before refl was in
+          let one = ap length (queued C past s a c Server (to_write past s c Server) w.before refl was) ∙ length-drop (last_took h.connects) (out Server) in
+          let two = ap length (queued C (x ∷ past) next b c Server (to_write (x ∷ past) next c Server) w.behind refl some) ∙ length-drop (last_took now) (server_output (made now) (next.places c)) in
+          let risen = heard_risen c h V x.group (subst (λ v. NoServer v c) (sym e) tt) in
+          let same = ap (λ p. length (server_output (made now) p)) stays ∙ ap (λ k. length (server_output k (s.places c))) risen.same in
+          let took : last_took now ≡ last_took h.connects + n = ap (λ v. last_took (hears c h v x.group).connects) e ∙ last_heard c n h x.group there.made there.on_time in
+          omega (arith, one, two, same, took)
 
       by : (y : List ℕ) → to_write (x ∷ past) next c side ≡ y → length y ≤ length (to_write past s c side) - n
       by [] is = omega arith
@@ -353,12 +442,8 @@ module _ (x : Happened) (a b : Core) (C : Config) (past : Past) (s next : State)
           let len : length y ≡ length (byte ∷ more) = ap length is in
           let some : 0 < length y = omega (arith, len) in
           let was : 0 < length (to_write past s c side) = elim (pending_before c side some) [ inl r ↦ absurd (never r.0) | inr before ↦ before ] in
-          let out = sent_side side (s.places c) in
-          let one = ap length (queued C past s a c side (to_write past s c side) w.before refl was) ∙ length-drop (took_side side (heard c past)) out in
-          let two = ap length (queued C (x ∷ past) next b c side y w.behind refl some) ∙ length-drop (took_side side (heard c (x ∷ past))) (sent_side side (next.places c)) in
-          let same = ap (λ p. length (sent_side side p)) stays in
-          let took = took_more side n e was in
-          omega (arith, len, one, two, same, took)
+          let less = left side n e was some in
+          omega (arith, len, less)
 
   -- ---- servers that are asked for
 

@@ -1,11 +1,14 @@
 -- What the client and the server of a connection took, piece by piece.
-use Rattle.std.specs.Prelude.{ℕ, List, [], ◌∷◌, ◌++◌, take, Some, None, nat_eq, if◌then◌else◌}
+use Rattle.std.specs.Prelude.{ℕ, suc, ◌+◌, List, [], ◌∷◌, ◌++◌, take, drop, Option, Some, None, nat_eq, if◌then◌else◌}
 use Rattle.px_bytes.specs.declared.addr.Side.{Side}
 use Rattle.px_bytes.specs.declared.addr.Side.TheVariants.{Client, Server}
 use Rattle.px_outside.specs.Net.{Call, Write}
 use Rattle.core_events.specs.declared.event.Event.{Event}
 use Rattle.core_events.specs.declared.event.Event.TheVariants as event
+use Rattle.conn_trace.specs.Heard.{Heard, SideHeard}
 use Rattle.conn_trace.specs.Item.{Item, client_output, server_output}
+use Rattle.proxy_core.specs.Scheduler.{last_took}
+use Rattle.proxy_core.specs.Servers.{made}
 use Rattle.serve_loop.specs.Broken.{Broken, Ungiven}
 use Rattle.serve_loop.specs.Walk.{Step, Own, Asked}
 
@@ -29,7 +32,16 @@ abbrev pub ungiven_piece : ℕ → Side → Broken → List ℕ
 ungiven_piece c side (Ungiven call e) = piece_of c side call e
 ungiven_piece c side other = []
 
--- what is sent to a side, of which one server connection at most is made
-abbrev pub sent_side : Side → List Item → List ℕ
-sent_side Client place = client_output place
-sent_side Server place = server_output 1 place
+-- what the server connections from a number on took of what was sent to them, one after another
+abbrev pub servers_took : ℕ → List (Option SideHeard) → List Item → List ℕ
+servers_took j [] place = []
+servers_took j (None ∷ more) place = servers_took j more place
+servers_took j (Some s ∷ more) place =
+    take s.took (server_output j place) ++ servers_took (suc j) more place
+
+-- what a side took, and so many more bytes of what was sent to it and not taken
+abbrev pub took_more : Side → ℕ → Heard → List Item → List ℕ
+took_more Client n h place = take (h.client.took + n) (client_output place)
+took_more Server n h place =
+    servers_took 1 h.connects place
+    ++ take n (drop (last_took h.connects) (server_output (made h.connects) place))

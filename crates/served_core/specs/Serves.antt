@@ -4,12 +4,12 @@ use Rattle.px_outside.specs.Net.{Call, Chain}
 use Rattle.px_outside.specs.Outside.{told_more}
 use Rattle.px_bytes.specs.declared.addr.Side.{Side}
 use Rattle.px_bytes.specs.declared.addr.Side.TheVariants as side
-use Rattle.conn_trace.specs.Item.{client_output, server_output}
+use Rattle.conn_trace.specs.Item.{client_output}
 use Rattle.journal_text.specs.Notes.{note_lines}
 use Rattle.proxy_core.specs.Headline.{OutputMatchesEvaluator}
 use Rattle.record_model.specs.Past.{Happened, Past, heard}
 use Rattle.proxy_core.specs.Represents.{Represents}
-use Rattle.proxy_core.specs.Scheduler.{State, last_took, no_connections}
+use Rattle.proxy_core.specs.Scheduler.{State, no_connections}
 use Rattle.record_model.specs.Setup.{init_notes}
 use Rattle.run_config.specs.declared.config.Config.{Config}
 use Rattle.proxy_core.specs.declared.core_state.Core.{Core}
@@ -23,7 +23,7 @@ use Rattle.serve_loop.specs.declared.fault.ServeEnd.{ServeEnd}
 use Rattle.serve_loop.specs.declared.fault.ServeFault.{ServeFault}
 use Rattle.serve_loop.specs.declared.fault.ServeFault.TheVariants as fault
 use Rattle.serve_loop.specs.declared.server.Server.{Server}
-use Rattle.served_core.specs.Pieces.{pieces_of, sent_side, ungiven_piece}
+use Rattle.served_core.specs.Pieces.{pieces_of, servers_took, took_more, ungiven_piece}
 use Rattle.proxy_core.specs.Face.{core_face}
 
 -- an event with its notes, as the core was given it
@@ -40,14 +40,14 @@ past_after (Asked call (Some g) ∷ steps) past = past_after steps (happened g �
 -- The core stands for the past of exactly the events of these steps, and the promise holds of it:
 -- what each client took is a front of what the evaluator gives, and all that
 -- `OutputMatchesEvaluator` says. The pieces that its link took, in order, are that front, and those
--- of its server's link likewise: one at most is made.
+-- of its servers' links are what each of its server connections took, one after another.
 pub record KeepsPromise (C : Config) (steps : List Step) (core : Core) : Type 0 where
   pub state : State
   pub represents : Represents C (past_after steps []) state core
   pub took : (c : ℕ) → pieces_of c side.Client steps
       ≡ take (heard c (past_after steps [])).client.took (client_output (state.places c))
   pub server_took : (c : ℕ) → pieces_of c side.Server steps
-      ≡ take (last_took (heard c (past_after steps [])).connects) (server_output 1 (state.places c))
+      ≡ servers_took 1 (heard c (past_after steps [])).connects (state.places c)
   pub matches : OutputMatchesEvaluator C (past_after steps []) state
 
 -- All that was done, step by step: the calls on the net are exactly those of the steps, in order;
@@ -89,7 +89,8 @@ pub record EventsSome {S T : Type 0} (did : S → Call → S → Type 0) (gave :
   pub steps_are : steps ≡ done.walk.steps ++ steps_of done.walk.broken
   pub keeps : KeepsPromise C steps new.server.serving.core
   pub ungiven : (of : Side) (c : ℕ) → (n : ℕ) × (pieces_of c of steps
-      ++ ungiven_piece c of done.walk.broken ≡ take n (sent_side of (keeps.state.places c)))
+      ++ ungiven_piece c of done.walk.broken
+      ≡ took_more of n (heard c (past_after steps [])) (keeps.state.places c))
 
 -- A core that stands for no event begins to be served.
 pub record Starts {S : Type 0} (did : S → Call → S → Type 0) (C : Config) (conns : ℕ) (net : S)

@@ -1,10 +1,9 @@
-use Rattle.std.proofs.Common.{◌≡◌, ◌⊎◌, inl, inr, refl, sym, ap, subst, ◌∙◌, [], ◌∷◌, ◌++◌, List, ℕ, false, true, not, Option, Some, None}
+use Rattle.std.proofs.Common.{◌≡◌, inl, inr, refl, sym, ap, subst, ◌∙◌, [], ◌∷◌, ◌++◌, List, ℕ, false, true, not, Option, None}
 use Rattle.std.specs.Option.{is_some}
 use Rattle.px_bytes.specs.Answered.{DidStep}
-use Rattle.px_bytes.specs.Host.{Effect, HostStep, Sent}
+use Rattle.px_bytes.specs.Host.{Sent}
 use Rattle.px_bytes.specs.declared.addr.Side.TheVariants.{Client}
-use Rattle.irule_http.specs.Commands.{bytes_of, http_step}
-use Rattle.irule_http.specs.declared.state.Http.{Http}
+use Rattle.irule_http.specs.Commands.{http_step}
 use Rattle.irule_http.proofs.Once.{http_once}
 use Rattle.conn.specs.Hosts.{answer_made}
 use Rattle.conn.proofs.Calling.{answered_did, memory_did, none_is, quiet_did}

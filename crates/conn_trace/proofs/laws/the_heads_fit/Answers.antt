@@ -1,5 +1,4 @@
 use Rattle.conn_trace.proofs.TheHeads.{the_heads_fit}
-use Rattle.conn_trace.proofs.WebRows.{collect_row}
 use Rattle.conn_trace.proofs.laws.the_heads_fit.Goals as goal
 
 pub returns : goal.returns

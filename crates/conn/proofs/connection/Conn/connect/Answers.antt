@@ -1,7 +1,6 @@
-use Rattle.std.proofs.Common.{◌≡◌, ◌≤◌, false, length, arith}
+use Rattle.std.proofs.Common.{◌≤◌, length, arith}
 use Rattle.std.proofs.lemmas.Bool.Decides.{nat_tests}
 use Rattle.px_bytes.specs.declared.addr.Side.TheVariants.{Server}
-use Rattle.seg_buffer.specs.Bytes.{is_empty}
 use Rattle.conn.specs.Queues.{queue_in}
 use Rattle.conn.proofs.Gating.{connect_rests, some_waits}
 use Rattle.conn.proofs.connection.Conn.connect.Goals as goal

@@ -1,5 +1,5 @@
 use Rattle.std.proofs.Common.{subst}
-use Rattle.conn.specs.Acts.{LogsAt}
+use Rattle.conn.specs.Acted.{LogsAt}
 use Rattle.conn.specs.declared.stage.Stage.{Stage}
 use Rattle.conn.proofs.Changing.{behind_fault}
 use Rattle.conn.proofs.connection.Conn.log_fault.Goals as goal

@@ -1,7 +1,7 @@
 use Rattle.std.proofs.Common.{◌≡◌, ◌+◌, ◌-◌, inl, inr, sym, ap, subst, ℕ, [], ◌∷◌, ◌++◌, length, arith}
 use Rattle.core_events.specs.declared.note.Note.TheVariants.{Finish}
 use Rattle.core_events.specs.declared.note.Cause.TheVariants.{Memory}
-use Rattle.conn.specs.Acts.{Acted}
+use Rattle.conn.specs.Acted.{Acted}
 use Rattle.conn.specs.Runs.{DropsQueued, IsWhole}
 use Rattle.conn.specs.declared.turn.Act.TheVariants as done
 use Rattle.conn.specs.declared.turn.ConnTurn.{ConnTurn}

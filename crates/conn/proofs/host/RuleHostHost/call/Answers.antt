@@ -1,11 +1,11 @@
-use Rattle.std.proofs.Common.{◌≡◌, sym, ap, subst, ◌∙◌, [], ◌++◌, List, ℕ, Bool, true, false, ◌&&◌, Option, Some, None, append-nil, append_assoc}
+use Rattle.std.proofs.Common.{◌≡◌, sym, ap, subst, ◌∙◌, ◌++◌, List, true, false, ◌&&◌, Some, None, append-nil, append_assoc}
 use Rattle.std.specs.Option.{is_some}
 use Rattle.std.proofs.lemmas.Bool.{and_parts}
 use Rattle.px_bytes.specs.Host.{Effect}
 use Rattle.irule_http.specs.Commands.{http_step}
 use Rattle.irule_net.specs.Commands.{is_http}
 use Rattle.conn_trace.specs.Host.{HostState, first_word, net_command}
-use Rattle.conn.specs.Hosts.{answer_made, seen_at, seen_host}
+use Rattle.conn.specs.Hosts.{answer_made, seen_host}
 use Rattle.conn.proofs.Calling.{did_as, http_called, net_called, none_is, not_asked}
 use Rattle.conn.proofs.host.RuleHostHost.call.Goals as goal
 
