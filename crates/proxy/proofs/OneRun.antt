@@ -38,7 +38,7 @@ use Rattle.proxy.specs.Loads.{Loads, is_read_fault}
 use Rattle.config.specs.Filled.{filled, pool_of, server_of}
 use Rattle.config.proofs.Filling.{parts_of}
 use Rattle.run_config.specs.declared.config.Config as core
-use Rattle.proxy.specs.Runnable.{are_built, bodies_at, can_run, has_built_bodies, has_few, is_plain, is_rule_built, sets_no_cookie, may_serve, speaks_http}
+use Rattle.proxy.specs.Runnable.{are_built, bodies_at, can_run, has_built_bodies, has_few, is_plain, is_rule_built, sets_no_cookie, speaks_http}
 use Rattle.proxy.proofs.ConfigAnswers.{other_kind}
 use Rattle.proxy.proofs.ListTests.{all_map}
 
@@ -137,7 +137,7 @@ all_built http (r ∷ rs) = ap (λ b. built http r && b) (all_built http rs)
 
 -- whether a virtual server can be run, and whether one speaks HTTP
 abbrev plain : VirtualSettings → Bool
-plain v = may_serve v.http (pool_of v) && sets_no_cookie v.persist
+plain v = sets_no_cookie v.persist
 
 abbrev speaks : List VirtualSettings → Bool
 speaks virtuals = list_any (λ v. v.http) virtuals

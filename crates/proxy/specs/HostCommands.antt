@@ -1,5 +1,5 @@
 -- The host commands that a tree names.
-use Rattle.std.specs.Prelude.{ℕ, List, [], ◌∷◌, ◌++◌, Bool, true, false, ◌||◌, not, find, is_some, IsTrue}
+use Rattle.std.specs.Prelude.{ℕ, List, [], ◌∷◌, ◌++◌, Bool, true, false, ◌&&◌, ◌||◌, not, find, is_some, IsTrue}
 use Rattle.std.specs.Prelude.{Option, Some, None}
 use Rattle.std.specs.List.{All, list_all}
 use Rattle.std.specs.Str.{bytes_eq}
@@ -78,36 +78,27 @@ abbrev mutual
 unfoldable pub is_host_name : List ℕ → Bool
 is_host_name name = is_some (find (λ c. bytes_eq (command_row c).name name) every_command)
 
--- What HTTP changes of the commands that there are today: a connection that speaks it has no server yet, and gathers no
--- body.
-abbrev pub http_alone : HostCommand → Option Bool
-http_alone host.Pool = Some false
-http_alone host.Node = Some false
-http_alone host.LbReselect = Some false
-http_alone host.HttpUri = Some true
-http_alone host.HttpPath = Some true
-http_alone host.HttpQuery = Some true
-http_alone host.HttpMethod = Some true
-http_alone host.HttpHost = Some true
-http_alone host.HttpRequestNum = Some true
-http_alone host.HttpVersion = Some true
-http_alone host.HttpHeader = Some true
-http_alone host.HttpCookie = Some true
-http_alone host.HttpStatus = Some true
-http_alone host.HttpRelease = Some true
-http_alone host.HttpClose = Some true
-http_alone host.HttpRespond = Some true
-http_alone host.HttpRedirect = Some true
-http_alone other = None
-
-abbrev pub changed_by : Option Bool → Bool → Bool
-changed_by None there = there
-changed_by (Some serves) there = serves
+-- The commands that HTTP adds, but those by which a rule has a body gathered.
+abbrev pub is_of_http : HostCommand → Bool
+is_of_http host.HttpUri = true
+is_of_http host.HttpPath = true
+is_of_http host.HttpQuery = true
+is_of_http host.HttpMethod = true
+is_of_http host.HttpHost = true
+is_of_http host.HttpRequestNum = true
+is_of_http host.HttpVersion = true
+is_of_http host.HttpHeader = true
+is_of_http host.HttpCookie = true
+is_of_http host.HttpStatus = true
+is_of_http host.HttpRelease = true
+is_of_http host.HttpClose = true
+is_of_http host.HttpRespond = true
+is_of_http host.HttpRedirect = true
+is_of_http other = false
 
 -- a connection has the command today, where it speaks HTTP or doesn't
 abbrev pub serves : (http : Bool) → HostCommand → Bool
-serves true c = changed_by (http_alone c) (is_there c)
-serves false c = is_there c
+serves http c = is_there c || (http && is_of_http c)
 
 abbrev pub serves_one : (http : Bool) → Option HostCommand → Bool
 serves_one http None = false

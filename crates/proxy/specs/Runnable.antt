@@ -1,8 +1,8 @@
 -- Which of the configurations that load can be run today, and what the core runs for them: virtual
--- servers without cookies, of which those that speak HTTP have no pool, and rules that name no command of the host
--- but those that a connection has today, and have 65,536 procedures at most. Where one virtual server speaks HTTP,
--- all rules may name what such a connection has.
-use Rattle.std.specs.Prelude.{◌≡◌, ℕ, ◌==◌, List, length, map, Bool, true, false, ◌&&◌}
+-- servers without cookies, and rules that name no command of the host but those that a connection has
+-- today, and have 65,536 procedures at most. Where one virtual server speaks HTTP, all rules may name
+-- what such a connection has.
+use Rattle.std.specs.Prelude.{◌≡◌, ℕ, List, map, Bool, true, false, ◌&&◌}
 use Rattle.std.specs.Prelude.{Option}
 use Rattle.std.specs.Prelude.{Some, None, is_none, slice_get, if◌then◌else◌}
 use Rattle.std.specs.List.{list_all, list_any}
@@ -49,13 +49,8 @@ sets_no_cookie persist.None = true
 sets_no_cookie persist.SourceAddr = true
 sets_no_cookie persist.Cookie = false
 
--- with HTTP it has no pool
-abbrev pub may_serve : (http : Bool) → (pool : List ℕ) → Bool
-may_serve true pool = length pool == 0
-may_serve false pool = true
-
 abbrev pub is_plain : Virtual → Bool
-is_plain v = may_serve v.http v.pool && sets_no_cookie v.persist
+is_plain v = sets_no_cookie v.persist
 
 abbrev pub speaks_http : List Virtual → Bool
 speaks_http virtuals = list_any (λ v. v.http) virtuals

@@ -3,7 +3,7 @@
 ghost use Rattle.std.specs.Prelude.{◌≡◌, ◌↔◌, IsTrue};
 ghost use Rattle.conn_trace.specs.Host.{is_there};
 ghost use Rattle.irule_net.specs.Checks.{command_of};
-ghost use Rattle.proxy.specs.HostCommands.{NamesBuilt, http_alone, is_built, is_built_name, serves};
+ghost use Rattle.proxy.specs.HostCommands.{NamesBuilt, is_built, is_built_name, is_of_http, serves};
 ghost use Rattle.proxy.specs.HostCommands.{is_host_name};
 ghost use Rattle.proxy.specs.HostCommands.{names_in_all, names_in_operands, names_in_values};
 ghost use Rattle.proxy.specs.HostCommands.{literal, may_all_stand, may_stand, name_of};
@@ -29,12 +29,11 @@ fn command_of(name: &[u8]) -> Option<HostCommand>
     read_command(name)
 }
 
-// What HTTP changes of the commands that there are today.
-fn http_alone(command: HostCommand) -> Option<bool>
-    ensures { result ≡ http_alone command }
+// Whether HTTP adds the command, and by none of it a body is gathered.
+fn is_of_http(command: HostCommand) -> bool
+    ensures { result ≡ is_of_http command }
 {
     match command {
-        HostCommand::Pool | HostCommand::Node | HostCommand::LbReselect => Some(false),
         HostCommand::HttpUri
         | HostCommand::HttpPath
         | HostCommand::HttpQuery
@@ -48,8 +47,8 @@ fn http_alone(command: HostCommand) -> Option<bool>
         | HostCommand::HttpRelease
         | HostCommand::HttpClose
         | HostCommand::HttpRespond
-        | HostCommand::HttpRedirect => Some(true),
-        _ => None,
+        | HostCommand::HttpRedirect => true,
+        _ => false,
     }
 }
 
@@ -58,10 +57,7 @@ fn serves(http: bool, command: HostCommand, there: bool) -> bool
     requires { there ≡ is_there command }
     ensures { result ≡ serves http command }
 {
-    match http_alone(command) {
-        Some(serves) if http => serves,
-        _ => there,
-    }
+    there || (http && is_of_http(command))
 }
 
 // Whether it is the name of a host command that a connection has today.

@@ -7,7 +7,7 @@ ghost use Rattle.proxy.specs.HostCommands.{is_built};
 ghost use Rattle.tcl_trees.specs.Procedures.{procs_view};
 ghost use Rattle.tcl_trees.specs.TreeView.{node_view};
 ghost use Rattle.proxy.specs.Runnable.{are_built, can_run, has_built_bodies, has_few, if_built};
-ghost use Rattle.proxy.specs.Runnable.{is_plain, is_rule_built, may_serve, run_of, sets_no_cookie};
+ghost use Rattle.proxy.specs.Runnable.{is_plain, is_rule_built, run_of, sets_no_cookie};
 ghost use Rattle.proxy.specs.Runnable.{speaks_http};
 
 use crate::interim_rules::is_built;
@@ -92,14 +92,7 @@ fn sets_no_cookie(persist: Persist) -> bool
 fn is_plain(server: &Virtual) -> bool
     ensures { result ≡ is_plain server.now }
 {
-    may_serve(server.http, server.pool.as_bytes()) && sets_no_cookie(server.persist)
-}
-
-// With HTTP it has no pool.
-fn may_serve(http: bool, pool: &[u8]) -> bool
-    ensures { result ≡ may_serve http pool.now }
-{
-    !http || pool.is_empty()
+    sets_no_cookie(server.persist)
 }
 
 fn speaks_http(servers: &[Virtual]) -> bool
