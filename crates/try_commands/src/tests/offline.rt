@@ -108,7 +108,7 @@ static ROWS: [Offline; 13] = [
         ..CHECKED
     },
     Offline {
-        shows: "HTTP with servers can't be run today",
+        shows: "members kept by a cookie can't be run today",
         words: "replay files.toml hi.txt",
         status: 3,
         written: Wanted::Whole(b"config fault 9 at config\n"),

@@ -39,7 +39,7 @@ pub(super) const UNREAD_RULE: &[u8] = b"config fault 1 at r.tcl
 r.tcl: this file can't be read
 ";
 
-/// A virtual server of HTTP with a pool, whose rule stands in a file.
+/// A virtual server of HTTP whose members are kept by a cookie, with a rule that stands in a file.
 const OF_FILES: &[u8] = b"version = 1
 
 [[virtual]]
@@ -47,6 +47,7 @@ name = \"v\"
 listen = \"127.0.0.1:9000\"
 http = true
 pool = \"p\"
+persist = \"cookie\"
 rules = [\"r\"]
 
 [[rule]]
