@@ -5,7 +5,7 @@
 
 PROGRAM is crates/ciravogu/out/ciravogu. nginx, haproxy, wrk and curl are installed from Debian's packages where they aren't there. Each
 relay has one process and one thread, and keeps its connections on both sides. Loads: `small`, 200 bytes by wrk; `edited`, the
-same with a field put into each request and one taken out of each response, by a rule, by nginx's own words and by haproxy's;
+same with a field put into each request and one taken out of each response, by a rule, by nginx's own words, by its njs and by haproxy's;
 `chunked`, 200,000 bytes in chunks; `upload`, 100 MB by curl, once; `pipelined`, 10,000 requests that one client sends at once.
 Prints the middle round of each: processor milliseconds of the relay for 1,000 requests (of `upload` for the one), and how much
 that is of nginx's; what was answered otherwise than by the origin itself is told, and the status is 1 then.
@@ -25,7 +25,8 @@ from serve import free_port, processor
 
 LOADS = ["small", "edited", "chunked", "upload", "pipelined"]
 SMALL, LARGE, UPLOADED, PIPELINED = 200, 200_000, 100_000_000, 10_000
-PACKAGES = ["nginx-core", "haproxy", "wrk", "curl"]
+MODULE = "/usr/lib/nginx/modules/ngx_http_js_module.so"
+PACKAGES = ["nginx-core", "libnginx-mod-http-js", "haproxy", "wrk", "curl"]
 ORIGIN = """daemon off;
 master_process off;
 worker_processes 1;
@@ -50,8 +51,10 @@ master_process off;
 worker_processes 1;
 pid %(folder)s/relay.pid;
 error_log stderr crit;
+%(module)s
 events { worker_connections 4096; }
 http {
+    %(imports)s
     access_log off;
     keepalive_requests 1000000000;
     client_max_body_size 1g;
@@ -95,6 +98,11 @@ name = "origin"
 members = [{ addr = "127.0.0.1:%(origin)d" }]
 %(rule)s
 """
+NJS = """export default {
+    from: (r) => r.remoteAddress,
+    strip: (r) => { delete r.headersOut["Server"]; },
+};
+"""
 RULE = """[[rule]]
 name = "edits"
 text = "when HTTP_REQUEST { HTTP::header insert X-Forwarded-For [IP::client_addr] }\\nwhen HTTP_RESPONSE { HTTP::header remove Server }"
@@ -102,7 +110,7 @@ text = "when HTTP_REQUEST { HTTP::header insert X-Forwarded-For [IP::client_addr
 
 
 def install():
-    if not all(shutil.which(it) for it in ("nginx", "haproxy", "wrk", "curl")):
+    if not all(shutil.which(it) for it in ("nginx", "haproxy", "wrk", "curl")) or not os.path.exists(MODULE):
         subprocess.run(["apt-get", "update"], stdout=subprocess.DEVNULL, check=True)
         subprocess.run(["apt-get", "install", "-y", *PACKAGES], stdout=subprocess.DEVNULL, check=True)
 
@@ -140,6 +148,12 @@ def relay(name, program, folder, origin, edits):
     """A relay by its name, with the edits of the load or without."""
     port = free_port()
     given = {"folder": folder, "port": port, "origin": origin}
+    given["module"] = given["imports"] = ""
+    if name == "nginx njs":
+        written(folder, "edits.js", NJS)
+        given["module"], given["imports"] = f"load_module {MODULE};", f"js_path {folder}; js_import edits.js; js_set $from edits.from;"
+        given["edits"] = "proxy_set_header X-Forwarded-For $from; js_header_filter edits.strip;"
+        return Server(["nginx", "-c", written(folder, "relay.conf", NGINX % given)], port)
     if name == "nginx":
         given["edits"] = "proxy_set_header X-Forwarded-For $remote_addr; proxy_hide_header Server; server_tokens off;" if edits else ""
         return Server(["nginx", "-c", written(folder, "relay.conf", NGINX % given)], port)
@@ -235,7 +249,7 @@ def main():
         origin = Server(["nginx", "-c", written(folder, "origin.conf", ORIGIN % {"folder": folder, "port": port})], port)
         try:
             for load in [words.only] if words.only else LOADS:
-                taken = {"ciravogu": [], "nginx": [], "haproxy": []}
+                taken = {"ciravogu": [], "nginx": [], "haproxy": [], **({"nginx njs": []} if load == "edited" else {})}
                 for _ in range(words.rounds):
                     for name, rounds in taken.items():
                         rounds.append(once(load, name, program, folder, origin, words))
