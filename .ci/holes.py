@@ -204,6 +204,8 @@ def write_hole(room, crate, function):
     """Puts a hole in place of what is written of a function's proof."""
     folder = f"{room}/proofs/{function.path}"
     shutil.rmtree(folder, ignore_errors=True)
+    # what is written of the proof of one that calls itself
+    shutil.rmtree(os.path.join(os.path.dirname(folder), f"+{function.name}"), ignore_errors=True)
     os.makedirs(folder)
     with open(f"{folder}/Proof.antt", "w", encoding="utf-8") as out:
         out.write(HOLE.format(library=f"Rattle.{crate}.proofs", path=function.path.replace("/", "."), name=function.name))
