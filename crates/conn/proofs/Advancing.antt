@@ -63,6 +63,8 @@ use Rattle.conn.specs.Messages.{is_whole, passed_to, with_ends}
 use Rattle.conn.specs.Servers.{closed_notes}
 use Rattle.conn.proofs.Reusing.{gives_up, retires, reuses}
 use Rattle.conn.proofs.Responding.{reads_response, response_noted, answer_group as reply_group}
+use Rattle.conn.specs.Gathering.{gathered_to, part_there}
+use Rattle.conn.proofs.Gathering.{gathered_group, gathers_body, gathers_noted, gathers_or, gathers_tells}
 use Rattle.conn.proofs.Sending.{forwards_body, forwards_noted, heading_noted, part_group, sends_head}
 use Rattle.conn.proofs.RequestActs.{answers_or, forwards_or, heading_or}
 
@@ -163,7 +165,12 @@ acted_well s c old new before after did ticks k = by_stage old.stage refl k
       tells = told_tells s c old new before after did k;
       along = λ g a l serves h awake. tells s g serves a l c old new h is (here stage.Continuing is g a l h) spoken before after did k;
     }
-    by_stage (stage.Gathering side wanted reader) is k = absurd k
+    by_stage (stage.Gathering side wanted reader) is (spoken, k) = record {
+      group = gathered_group (part_there side k.to) side c (gathered_to side k.to old);
+      notes = gathers_noted s c side wanted reader old new before after did k;
+      tells = gathers_tells s c side wanted reader old new before after did k;
+      along = λ g a l serves h awake. gathers_body s g serves a l c old new h spoken side wanted reader is before after did k;
+    }
     by_stage stage.AtReuse is (e, k) = record {
       group = note.Reuse c (is_whole old.ends.server) ∷ [];
       notes = k.noted;
@@ -308,7 +315,7 @@ rests_quiet s c old new before after ticks k = by_stage old.stage k
     by_stage stage.Collecting k = collect_quiet s c (meets old.host.net.client.asks old.ends.client.unread) old new before after k
     by_stage stage.AtHead (spoken, k) = or_quiet s c old new before after (head_or s c old new before after done.Rests (head_part old.ends.client.unread old.ends.client.ended) k)
     by_stage stage.Continuing (spoken, k) = or_quiet s c old new before after (tells_or s c old new before after done.Rests k)
-    by_stage (stage.Gathering side wanted reader) k = absurd k
+    by_stage (stage.Gathering side wanted reader) (spoken, k) = or_quiet s c (gathered_to side k.to old) new before after (gathers_or s c side wanted reader old new before after done.Rests k)
     by_stage stage.AtReuse k = absurd (let e = k.0 in cc)
     by_stage (stage.GivingUp w) k = absurd (let e = k.0 in cc)
     by_stage (stage.Retiring w) k = absurd (let e = k.0 in cc)
@@ -402,7 +409,7 @@ rests_asking s c old new before after ticks k = by_stage old.stage refl k
     by_stage stage.Collecting is k = as_before (collect_same s c (meets old.host.net.client.asks old.ends.client.unread) old new before after k)
     by_stage stage.AtHead is (spoken, k) = as_before (or_same s c old new before after (head_or s c old new before after done.Rests (head_part old.ends.client.unread old.ends.client.ended) k))
     by_stage stage.Continuing is (spoken, k) = as_before (or_same s c old new before after (tells_or s c old new before after done.Rests k))
-    by_stage (stage.Gathering side wanted reader) is k = absurd k
+    by_stage (stage.Gathering side wanted reader) is (spoken, k) = ap (λ x. is_asking x.stage) (or_same s c (gathered_to side k.to old) new before after (gathers_or s c side wanted reader old new before after done.Rests k)) ∙ sym (ap is_asking is)
     by_stage stage.AtReuse is k = absurd (let e = k.0 in cc)
     by_stage (stage.GivingUp w) is k = absurd (let e = k.0 in cc)
     by_stage (stage.Retiring w) is k = absurd (let e = k.0 in cc)
@@ -498,7 +505,7 @@ asks_there s c old new before after call ticks k = by_stage old.stage k
     by_stage stage.Collecting k = absurd (collect_asks_not s c (meets old.host.net.client.asks old.ends.client.unread) old new before after call k)
     by_stage stage.AtHead (spoken, k) = absurd (or_asks_not s c old new before after call (head_or s c old new before after (done.Asks call) (head_part old.ends.client.unread old.ends.client.ended) k))
     by_stage stage.Continuing (spoken, k) = absurd (or_asks_not s c old new before after call (tells_or s c old new before after (done.Asks call) k))
-    by_stage (stage.Gathering side wanted reader) k = absurd k
+    by_stage (stage.Gathering side wanted reader) (spoken, k) = absurd (or_asks_not s c (gathered_to side k.to old) new before after call (gathers_or s c side wanted reader old new before after (done.Asks call) k))
     by_stage stage.AtReuse k = absurd (let e = k.0 in cc)
     by_stage (stage.GivingUp w) k = absurd (let e = k.0 in cc)
     by_stage (stage.Retiring w) k = absurd (let e = k.0 in cc)

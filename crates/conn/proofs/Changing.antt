@@ -31,7 +31,9 @@ module _ (s : Setup) (from : Stage) (old new : Conn) where
   leaves event.Failed k = goes _ k
   leaves event.Connected k = goes _ k
   leaves event.Request k = goes _ k
+  leaves event.RequestData k = goes _ k
   leaves event.Response k = goes _ k
+  leaves event.ResponseData k = goes _ k
   leaves event.Leaving k = goes _ k
   leaves event.ServerData k = goes _ k
   leaves event.ServerClosed k = record { mid = k.mid; begins = record { vars = k.begins.vars; host = k.begins.host; ends = k.begins.ends }; goes = k.goes }

@@ -6,6 +6,7 @@ use Rattle.conn_trace.specs.State.{TraceState}
 use Rattle.conn_trace.proofs.Streams.{nothing_stream, nothing_server, nothing_on_last}
 use Rattle.conn.specs.Calls.{Connects, answer_of, answered_by, answered_in, connect_answer, connected_ends, link_answered, unless_finished}
 use Rattle.conn.specs.Ends.{connects_by, fresh_end, has_stream, is_sought, is_up, number_by, server_by, servers_by, is_taken}
+use Rattle.conn.specs.Events.{gathered_at}
 use Rattle.conn.specs.Holds.{Around, Holds, HoldsEnds}
 use Rattle.conn.specs.Stages.{at_fits, fits, has_finished}
 use Rattle.conn.specs.declared.connection.Conn.{Conn}
@@ -96,7 +97,9 @@ at_answer at.Selected k s f = absurd (let t : false ≡ true = f in cc)
 at_answer at.Failed k s f = absurd (let t : false ≡ true = f in cc)
 at_answer at.Connected k s f = absurd (let t : false ≡ true = f in cc)
 at_answer at.Request k s f = absurd (let t : false ≡ true = f in cc)
+at_answer at.RequestData k s f = absurd (let t : false ≡ true = f in cc)
 at_answer at.Response k s f = absurd (let t : false ≡ true = f in cc)
+at_answer at.ResponseData k s f = absurd (let t : false ≡ true = f in cc)
 at_answer at.Leaving k s f = absurd (let t : false ≡ true = f in cc)
 at_answer at.ServerData k s f = absurd (let t : false ≡ true = f in cc)
 at_answer at.ServerClosed k s f = refl
@@ -110,7 +113,9 @@ gate_answer at.Selected k s f = absurd (let t : false ≡ true = f in cc)
 gate_answer at.Failed k s f = absurd (let t : false ≡ true = f in cc)
 gate_answer at.Connected k s f = absurd (let t : false ≡ true = f in cc)
 gate_answer at.Request k s f = absurd (let t : false ≡ true = f in cc)
+gate_answer at.RequestData k s f = absurd (let t : false ≡ true = f in cc)
 gate_answer at.Response k s f = absurd (let t : false ≡ true = f in cc)
+gate_answer at.ResponseData k s f = absurd (let t : false ≡ true = f in cc)
 gate_answer at.Leaving k s f = absurd (let t : false ≡ true = f in cc)
 gate_answer at.ServerData k s f = absurd (let t : false ≡ true = f in cc)
 gate_answer at.ServerClosed k s f = f
@@ -129,7 +134,7 @@ answer_fits (stage.Answering to) k s u f = ap (λ x. x && not (is_up k)) s ∙ a
 answer_fits stage.Collecting k s u f = absurd (let t : false ≡ true = f in cc)
 answer_fits stage.AtHead k s u f = absurd (let t : false ≡ true = f in cc)
 answer_fits stage.Continuing k s u f = absurd (let t : false ≡ true = f in cc)
-answer_fits (stage.Gathering side wanted reader) k s u f = absurd (let t : false ≡ true = f in cc)
+answer_fits (stage.Gathering side wanted reader) k s u f = at_answer (gathered_at side) k s f
 answer_fits stage.AtReuse k s u f = absurd (let t : false ≡ true = f in cc)
 answer_fits (stage.GivingUp w) k s u f = absurd (let t : false ≡ true = f in cc)
 answer_fits (stage.Retiring w) k s u f = absurd (let t : false ≡ true = f in cc)

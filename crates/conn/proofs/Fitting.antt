@@ -28,7 +28,7 @@ use Rattle.conn.specs.declared.stage.Stage.{Stage}
 use Rattle.conn.specs.declared.stage.Stage.TheVariants as stage
 use Rattle.conn.specs.Ends.{is_leaving, is_settled, is_sought, is_up}
 use Rattle.conn.specs.Events.{is_closed, is_closing}
-use Rattle.conn.specs.Stages.{InEvent as HostIn, accepted_stage, after_stage, at_fits, connected_stage, connecting_stage, data_stage, entered_by, failed_stage, fits, gathering_stage, has_body, has_finished, http_in, is_asking, leaving_stage, open_stage, request_stage, response_stage, routed_stage, unless_ended}
+use Rattle.conn.specs.Stages.{InEvent as HostIn, accepted_stage, after_stage, at_fits, connected_stage, connecting_stage, data_stage, entered_by, failed_stage, fits, gathering_stage, has_body, has_finished, http_in, is_asking, leaving_stage, open_stage, request_data_stage, request_stage, response_stage, routed_stage, unless_ended}
 
 -- an event that closes nothing leaves it going on
 pub still_open : (at : At) → is_closing at ≡ false → is_closed at ≡ false
@@ -38,7 +38,9 @@ still_open at.Selected e = refl
 still_open at.Failed e = refl
 still_open at.Connected e = refl
 still_open at.Request e = refl
+still_open at.RequestData e = refl
 still_open at.Response e = refl
+still_open at.ResponseData e = refl
 still_open at.ServerData e = refl
 still_open at.Leaving e = refl
 still_open at.ServerClosed e = absurd (true≢false e)
@@ -74,6 +76,10 @@ request_keeps P k h f d c r n (Some closing) true = f
 request_keeps P k h f d c r n (Some closing) false = d
 request_keeps P k h f d c r n None true = c
 request_keeps P k h f d c r n None false = gathering_keeps P Client (http_in h) (routed_stage (is_up k) (is_left (seen_host h))) r n (wanted_more (http_in h))
+
+request_data_keeps : (P : Stage → Type 0) (k : Link) (h : RuleHost) → P (stage.Dropping (http_in h).reader) → P (routed_stage (is_up k) (is_left (seen_host h))) → ((n : ℕ) → P (stage.Gathering Client (suc n) (http_in h).reader)) → (answer : Option Bool) → P (request_data_stage answer k h)
+request_data_keeps P k h d r n (Some closing) = d
+request_data_keeps P k h d r n None = gathering_keeps P Client (http_in h) (routed_stage (is_up k) (is_left (seen_host h))) r n (wanted_more (http_in h))
 
 response_keeps : (P : Stage → Type 0) (x : Http) → P (stage.GivingUp behind.BehindMessage) → P (stage.Heading Server) → ((n : ℕ) → P (stage.Gathering Server (suc n) x.reader)) → (answer : Option Bool) → P (response_stage answer x)
 response_keeps P x g h n (Some closing) = g
@@ -130,6 +136,10 @@ goes_keeps P e at.Connected k h open_yet = ended_keeps P e.rejected e.closed h.n
 goes_keeps P e at.Request k h open_yet =
     ended_keeps P e.rejected e.closed h.net.wishes.ends _
     (request_keeps P k h e.closed (e.dropping (http_in h).reader) e.continuing (routed_keeps P e.choosing (e.giving_up behind.BeforeSelect) e.at_reuse (is_up k) (is_left (seen_host h))) (λ n. e.gathering Client n (http_in h).reader) (http_in h).answer (expects_by (http_in h).came))
+goes_keeps P e at.RequestData k h open_yet =
+    ended_keeps P e.rejected e.closed h.net.wishes.ends _
+    (request_data_keeps P k h (e.dropping (http_in h).reader) (routed_keeps P e.choosing (e.giving_up behind.BeforeSelect) e.at_reuse (is_up k) (is_left (seen_host h))) (λ n. e.gathering Client n (http_in h).reader) (http_in h).answer)
+goes_keeps P e at.ResponseData k h open_yet = ended_keeps P e.rejected e.closed h.net.wishes.ends _ (response_keeps P (http_in h) (e.giving_up behind.BehindMessage) (e.heading Server) (λ n. e.gathering Server n (http_in h).reader) (http_in h).answer)
 goes_keeps P e at.Response k h open_yet = ended_keeps P e.rejected e.closed h.net.wishes.ends _ (response_keeps P (http_in h) (e.giving_up behind.BehindMessage) (e.heading Server) (λ n. e.gathering Server n (http_in h).reader) (http_in h).answer)
 goes_keeps P e at.Leaving k h open_yet = leaving_keeps P e.retiring e.choosing k
 goes_keeps P e at.ServerData k h open_yet = ended_keeps P e.rejected e.closed h.net.wishes.ends _ (e.relaying Client)
@@ -238,7 +248,11 @@ after_fits at.Connected h k fit = ended_keeps (λ st. fits st k ≡ true) refl r
 after_fits at.Request h k fit =
     ended_keeps (λ st. fits st k ≡ true) refl refl h.net.wishes.ends _
     (request_keeps (λ st. fits st k ≡ true) k h refl fit fit (routed_fits k (is_left (seen_host h)) fit) (λ n. fit) (http_in h).answer (expects_by (http_in h).came))
-after_fits at.Response h k fit = ended_keeps (λ st. fits st k ≡ true) refl refl h.net.wishes.ends _ (response_keeps (λ st. fits st k ≡ true) (http_in h) fit fit (λ n. up_settled k fit) (http_in h).answer)
+after_fits at.RequestData h k fit =
+    ended_keeps (λ st. fits st k ≡ true) refl refl h.net.wishes.ends _
+    (request_data_keeps (λ st. fits st k ≡ true) k h fit (routed_fits k (is_left (seen_host h)) fit) (λ n. fit) (http_in h).answer)
+after_fits at.Response h k fit = ended_keeps (λ st. fits st k ≡ true) refl refl h.net.wishes.ends _ (response_keeps (λ st. fits st k ≡ true) (http_in h) fit fit (λ n. fit) (http_in h).answer)
+after_fits at.ResponseData h k fit = ended_keeps (λ st. fits st k ≡ true) refl refl h.net.wishes.ends _ (response_keeps (λ st. fits st k ≡ true) (http_in h) fit fit (λ n. fit) (http_in h).answer)
 after_fits at.Leaving h k fit = leaving_fits k fit
 after_fits at.ServerData h k fit = ended_keeps (λ st. fits st k ≡ true) refl refl h.net.wishes.ends (stage.Relaying Client) fit
 after_fits at.ServerClosed h k fit = refl

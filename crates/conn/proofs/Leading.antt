@@ -1,6 +1,6 @@
--- Where an action outside of bodies leads: a body has just begun there, or none runs; and no more than fourteen
+-- Where an action outside of bodies leads: a body has just begun there, or none runs; and no more than sixteen
 -- such actions are made one after another without a note.
-use Rattle.std.proofs.Common.{◌≡◌, ◌⊎◌, ◌≤◌, inl, inr, refl, sym, ap, subst, ◌∙◌, ℕ, zero, suc, ◌+◌, ◌*◌, List, [], ◌∷◌, ◌++◌, length, length-append, append-nil, take, drop, nat_lt, Bool, true, false, true≢false, Option, Some, None, Result, Ok, Err, if◌then◌else◌, arith}
+use Rattle.std.proofs.Common.{◌≡◌, ◌⊎◌, ◌≤◌, inl, inr, refl, sym, ap, subst, ◌∙◌, ℕ, zero, suc, ◌+◌, ◌-◌, ◌*◌, min, List, [], ◌∷◌, ◌++◌, length, length-append, append-nil, take, drop, nat_lt, Bool, true, false, true≢false, Option, Some, None, Result, Ok, Err, if◌then◌else◌, arith}
 use Rattle.std.specs.Option.{is_some}
 use Rattle.std.specs.Prelude.{option_map}
 use Rattle.std.specs.Bool.{MatchBool}
@@ -20,7 +20,9 @@ use Rattle.http_heads.specs.declared.front.HeadPart.{HeadPart}
 use Rattle.http_heads.specs.declared.front.HeadPart.TheVariants.{HeadOf, StreamEnds, Faulty, NoHead}
 use Rattle.http_heads.specs.Fronts.{head_part}
 use Rattle.conn_trace.specs.Host.{http_known}
-use Rattle.conn_trace.specs.Http.{wanted_more}
+use Rattle.conn_trace.specs.Fronts.{after_byte}
+use Rattle.conn_trace.specs.Http.{wanted_more, with_gathered, with_whole}
+use Rattle.irule_http.specs.Payload.{payload_limit}
 use Rattle.conn_trace.specs.Places.{http_begun}
 use Rattle.conn_trace.specs.SentBodies.{is_answered}
 use Rattle.core_events.specs.declared.note.CutReason.{CutReason}
@@ -36,12 +38,12 @@ use Rattle.conn.specs.Acts.{DropsBy, HeadBy, RefusesBy, RequestBy, SendsClient, 
 use Rattle.conn.specs.Bodies.{Fresh}
 use Rattle.conn.specs.Changes.{Closes, ClosesClient, ClosesServer, Enters, GoesTo, Leaves, NextBody, StartsBody, left_stage}
 use Rattle.conn.specs.Choosing.{ChoosesBy, TakesChosen, plan_of}
-use Rattle.conn.specs.Ends.{is_sought, is_up}
-use Rattle.conn.specs.Events.{event_of, is_closing}
+use Rattle.conn.specs.Ends.{end_of, is_sought, is_up}
+use Rattle.conn.specs.Events.{event_of, gathered_at, is_closing}
 use Rattle.conn.specs.Hosts.{begun_host, requested_host}
-use Rattle.conn.specs.Relaying.{Releases, relay_plan, round_begun}
+use Rattle.conn.specs.Relaying.{Releases, read_ends, relay_plan, round_begun}
 use Rattle.conn.specs.Setups.{places_at}
-use Rattle.conn.specs.Stages.{asked_stage, connected_stage, connecting_stage, entered_by, failed_stage, gathering_stage, has_body, headed_stage, http_in, is_running, leaving_stage, loose_stage, message_stage, next_by, next_stage, request_stage, response_stage, retired_stage, routed_stage, spent_stage, unless_ended}
+use Rattle.conn.specs.Stages.{asked_stage, connected_stage, connecting_stage, entered_by, failed_stage, gathering_stage, has_body, headed_stage, http_in, is_running, leaving_stage, loose_stage, request_data_stage, message_stage, next_by, next_stage, request_stage, response_stage, retired_stage, routed_stage, spent_stage, unless_ended}
 use Rattle.conn_trace.specs.Messages.{is_counted, is_interim}
 use Rattle.conn_trace.specs.Routing.{is_left, is_spent_link}
 use Rattle.conn_trace.specs.SentBodies.{last_line}
@@ -49,6 +51,8 @@ use Rattle.irule_http.specs.declared.state.Response.{Response}
 use Rattle.px_bytes.specs.declared.addr.Side.{Side}
 use Rattle.conn.specs.Changes.{LeavesServer}
 use Rattle.conn.specs.Forwarding.{Passage, answer_of, ends_room, part_at, switches}
+use Rattle.conn.specs.Gathering.{part_there}
+use Rattle.conn.specs.Gathering as intake
 use Rattle.conn.specs.Hosts.{responded_host, seen_host}
 use Rattle.conn.specs.Messages.{AnswerBy, Becomes, EndsBy, FrontBy, Retires, StatusBy, head_bytes, is_whole, passed_to, with_ends}
 use Rattle.conn.specs.Relaying.{moved_as}
@@ -111,7 +115,9 @@ leaves s event.Selected old new k = goes_to s (left_stage event.Selected old) ol
 leaves s event.Failed old new k = goes_to s (left_stage event.Failed old) old new (after_no_body event.Failed old.ends.link old.host) k
 leaves s event.Connected old new k = goes_to s (left_stage event.Connected old) old new (after_no_body event.Connected old.ends.link old.host) k
 leaves s event.Request old new k = goes_to s (left_stage event.Request old) old new (after_no_body event.Request old.ends.link old.host) k
+leaves s event.RequestData old new k = goes_to s (left_stage event.RequestData old) old new (after_no_body event.RequestData old.ends.link old.host) k
 leaves s event.Response old new k = goes_to s (left_stage event.Response old) old new (after_no_body event.Response old.ends.link old.host) k
+leaves s event.ResponseData old new k = goes_to s (left_stage event.ResponseData old) old new (after_no_body event.ResponseData old.ends.link old.host) k
 leaves s event.Leaving old new k = goes_to s (left_stage event.Leaving old) old new (after_no_body event.Leaving old.ends.link old.host) k
 leaves s event.ServerData old new k = goes_to s (left_stage event.ServerData old) old new (after_no_body event.ServerData old.ends.link old.host) k
 leaves s event.ServerClosed old new k = closes_client s old new k
@@ -150,21 +156,23 @@ ended_starts s h at n mid new (Some fault) did k = goes_to s (stage.Failing at (
 -- request at hand LB_FAILED without bodies drops what is left of it; the next request isn't answered yet.
 abbrev pub rank : Stage → (answered : Bool) → ℕ
 rank (stage.Gated at) answered = 1
-rank stage.Choosing answered = if answered then 8 else 2
-rank (stage.Chosen addr) answered = if answered then 8 else 2
-rank (stage.Retiring behind.BeforeSelect) answered = if answered then 9 else 3
-rank (stage.GivingUp behind.BeforeSelect) answered = if answered then 10 else 4
-rank stage.Continuing answered = if answered then 11 else 5
-rank stage.AtHead answered = 6
-rank (stage.Dropping reader) answered = 7
-rank (stage.Retiring behind.BehindMessage) answered = 7
-rank (stage.GivingUp behind.BehindMessage) answered = 8
-rank (stage.Forwarding Server reader standing) answered = 9
-rank (stage.Heading Server) answered = 10
-rank stage.AtResponse answered = 11
-rank (stage.Forwarding Client reader standing) answered = 12
-rank (stage.Heading Client) answered = 13
-rank (stage.Answering to) answered = 14
+rank stage.Choosing answered = if answered then 9 else 2
+rank (stage.Chosen addr) answered = if answered then 9 else 2
+rank (stage.Retiring behind.BeforeSelect) answered = if answered then 10 else 3
+rank (stage.GivingUp behind.BeforeSelect) answered = if answered then 11 else 4
+rank (stage.Gathering Client wanted reader) answered = if answered then 12 else 5
+rank stage.Continuing answered = if answered then 13 else 6
+rank stage.AtHead answered = 7
+rank (stage.Dropping reader) answered = 8
+rank (stage.Retiring behind.BehindMessage) answered = 8
+rank (stage.GivingUp behind.BehindMessage) answered = 9
+rank (stage.Forwarding Server reader standing) answered = 10
+rank (stage.Heading Server) answered = 11
+rank (stage.Gathering Server wanted reader) answered = 12
+rank stage.AtResponse answered = 13
+rank (stage.Forwarding Client reader standing) answered = 14
+rank (stage.Heading Client) answered = 15
+rank (stage.Answering to) answered = 16
 rank stage.Releasing answered = 1
 rank other answered = 0
 
@@ -174,17 +182,19 @@ is_answered_in h = is_some (http_in h).answer
 abbrev pub rank_of : Conn → ℕ
 rank_of c = rank c.stage (is_answered_in c.host)
 
-few_by : (b : Bool) (x y : ℕ) → x ≤ 14 → y ≤ 14 → (if b then x else y) ≤ 14
+few_by : (b : Bool) (x y : ℕ) → x ≤ 16 → y ≤ 16 → (if b then x else y) ≤ 16
 few_by true x y p q = p
 few_by false x y p q = q
 
-pub rank_few : (st : Stage) (answered : Bool) → rank st answered ≤ 14
+pub rank_few : (st : Stage) (answered : Bool) → rank st answered ≤ 16
 rank_few (stage.Gated at) answered = omega arith
-rank_few stage.Choosing answered = few_by answered 8 2 (omega arith) (omega arith)
-rank_few (stage.Chosen addr) answered = few_by answered 8 2 (omega arith) (omega arith)
-rank_few (stage.Retiring behind.BeforeSelect) answered = few_by answered 9 3 (omega arith) (omega arith)
-rank_few (stage.GivingUp behind.BeforeSelect) answered = few_by answered 10 4 (omega arith) (omega arith)
-rank_few stage.Continuing answered = few_by answered 11 5 (omega arith) (omega arith)
+rank_few stage.Choosing answered = few_by answered 9 2 (omega arith) (omega arith)
+rank_few (stage.Chosen addr) answered = few_by answered 9 2 (omega arith) (omega arith)
+rank_few (stage.Retiring behind.BeforeSelect) answered = few_by answered 10 3 (omega arith) (omega arith)
+rank_few (stage.GivingUp behind.BeforeSelect) answered = few_by answered 11 4 (omega arith) (omega arith)
+rank_few (stage.Gathering Client wanted reader) answered = few_by answered 12 5 (omega arith) (omega arith)
+rank_few (stage.Gathering Server wanted reader) answered = omega arith
+rank_few stage.Continuing answered = few_by answered 13 6 (omega arith) (omega arith)
 rank_few stage.AtHead answered = omega arith
 rank_few (stage.Dropping reader) answered = omega arith
 rank_few (stage.Retiring behind.BehindMessage) answered = omega arith
@@ -200,9 +210,9 @@ rank_few other answered = omega arith
 
 -- where a server is selected or asked for
 abbrev high : Bool → ℕ
-high answered = if answered then 8 else 2
+high answered = if answered then 9 else 2
 
-high_few : (answered : Bool) → high answered ≤ 8
+high_few : (answered : Bool) → high answered ≤ 9
 high_few true = omega arith
 high_few false = omega arith
 
@@ -222,7 +232,7 @@ loose_low : (loose : List ℕ) (answered : Bool) → rank (loose_stage loose) an
 loose_low [] answered = omega arith
 loose_low (b ∷ bs) answered = omega arith
 
-connected_low : (http : Bool) (loose : List ℕ) (answered : Bool) → rank (connected_stage http loose) answered ≤ 13
+connected_low : (http : Bool) (loose : List ℕ) (answered : Bool) → rank (connected_stage http loose) answered ≤ 15
 connected_low true loose answered = omega arith
 connected_low false loose answered = let k = loose_low loose answered in omega (arith, k)
 
@@ -247,9 +257,9 @@ selected_low = record { low = λ k host up new ps is. low_by event.Selected k ho
     by_places k host up [] = below_high (is_answered_in (begun_host event.Selected up host)) _ (connecting_low host.net.selected (is_answered_in (begun_host event.Selected up host)))
     by_places k host up (p ∷ ps) = below_high (is_answered_in (begun_host event.Selected up host)) 1 (omega arith)
 
-connects_low : (k : Link) (new : RuleHost) (ps : List Place) → new.net.wishes.ends ≡ None → rank (entered_by event.Connected k new ps) (is_answered_in new) ≤ 13
+connects_low : (k : Link) (new : RuleHost) (ps : List Place) → new.net.wishes.ends ≡ None → rank (entered_by event.Connected k new ps) (is_answered_in new) ≤ 15
 connects_low k new [] none =
-    subst (λ o. rank (unless_ended o (connected_stage (is_some new.http) new.net.loose)) (is_answered_in new) ≤ 13) (sym none) (connected_low (is_some new.http) new.net.loose (is_answered_in new))
+    subst (λ o. rank (unless_ended o (connected_stage (is_some new.http) new.net.loose)) (is_answered_in new) ≤ 15) (sym none) (connected_low (is_some new.http) new.net.loose (is_answered_in new))
 connects_low k new (p ∷ ps) none = omega arith
 
 -- an event leaves whether a rule has answered; a request that begins isn't answered
@@ -261,7 +271,7 @@ answered_still at up h = by_http h.http
     by_http (Some http) = refl
 
 -- a request that was read
-routed_low : (up left answered : Bool) → rank (routed_stage up left) answered ≤ (if answered then 10 else 4)
+routed_low : (up left answered : Bool) → rank (routed_stage up left) answered ≤ (if answered then 11 else 4)
 routed_low false left true = omega arith
 routed_low false left false = omega arith
 routed_low true true true = omega arith
@@ -269,56 +279,115 @@ routed_low true true false = omega arith
 routed_low true false true = omega arith
 routed_low true false false = omega arith
 
-gathering_low : (side : Side) (n : ℕ) (http : Http) (st : Stage) (answered : Bool) (most : ℕ) → rank st answered ≤ most → rank (gathering_stage side n http st) answered ≤ most
-gathering_low side zero http st answered most low = low
-gathering_low side (suc n) http st answered most low = omega arith
+gathering_low : (side : Side) (n : ℕ) (http : Http) (st : Stage) (answered : Bool) → rank st answered + 1 ≤ rank (stage.Gathering side 1 http.reader) answered → rank (gathering_stage side n http st) answered ≤ rank (stage.Gathering side 1 http.reader) answered
+gathering_low side zero http st answered low = omega (arith, low)
+gathering_low Client (suc n) http st answered low = omega arith
+gathering_low Server (suc n) http st answered low = omega arith
 
-asked_low : (k : Link) (h : RuleHost) (answered : Bool) → rank (asked_stage k h) answered ≤ (if answered then 10 else 4)
-asked_low k h answered = gathering_low Client (wanted_more (http_in h)) (http_in h) (routed_stage (is_up k) (is_left (seen_host h))) answered _ (routed_low (is_up k) (is_left (seen_host h)) answered)
+below_gathering : (up left answered : Bool) (reader : BodyState) → rank (routed_stage up left) answered + 1 ≤ rank (stage.Gathering Client 1 reader) answered
+below_gathering up left true reader = let k = routed_low up left true in omega (arith, k)
+below_gathering up left false reader = let k = routed_low up left false in omega (arith, k)
 
-begins_low : (expects : Bool) (k : Link) (h : RuleHost) → rank (request_stage None expects k h) false ≤ 5
+asked_low : (k : Link) (h : RuleHost) (answered : Bool) → rank (asked_stage k h) answered ≤ (if answered then 12 else 5)
+asked_low k h answered = gathering_low Client (wanted_more (http_in h)) (http_in h) (routed_stage (is_up k) (is_left (seen_host h))) answered (below_gathering (is_up k) (is_left (seen_host h)) answered (http_in h).reader)
+
+begins_low : (expects : Bool) (k : Link) (h : RuleHost) → rank (request_stage None expects k h) false ≤ 6
 begins_low true k h = omega arith
 begins_low false k h = let low = asked_low k h false in omega (arith, low)
 
-request_low : (k : Link) (r : Request) (host : RuleHost) (up : Bool) (new : RuleHost) (ps : List Place) → new ≡ begun_host event.Request up (requested_host r host) → rank (entered_by event.Request k new ps) (is_answered_in new) ≤ 5
-request_low k r host up new ps is = subst (λ n. rank (entered_by event.Request k n ps) (is_answered_in n) ≤ 5) (sym is) (by_places ps)
+request_low : (k : Link) (r : Request) (host : RuleHost) (up : Bool) (new : RuleHost) (ps : List Place) → new ≡ begun_host event.Request up (requested_host r host) → rank (entered_by event.Request k new ps) (is_answered_in new) ≤ 6
+request_low k r host up new ps is = subst (λ n. rank (entered_by event.Request k n ps) (is_answered_in n) ≤ 6) (sym is) (by_places ps)
   where
-    by_places : (ps : List Place) → rank (entered_by event.Request k (begun_host event.Request up (requested_host r host)) ps) false ≤ 5
+    by_places : (ps : List Place) → rank (entered_by event.Request k (begun_host event.Request up (requested_host r host)) ps) false ≤ 6
     by_places [] = begins_low (expects_by (http_in (begun_host event.Request up (requested_host r host))).came) k (begun_host event.Request up (requested_host r host))
     by_places (p ∷ ps) = omega arith
 
 -- and a response
-answered_low : (answer : Option Bool) (http : Http) (answered : Bool) → rank (response_stage answer http) answered ≤ 10
+answered_low : (answer : Option Bool) (http : Http) (answered : Bool) → rank (response_stage answer http) answered ≤ 12
 answered_low (Some closing) http answered = omega arith
-answered_low None http answered = gathering_low Server (wanted_more http) http (stage.Heading Server) answered 10 (omega arith)
+answered_low None http answered = gathering_low Server (wanted_more http) http (stage.Heading Server) answered (omega arith)
 
-response_low : (k : Link) (r : Response) (host : RuleHost) (up : Bool) (new : RuleHost) (ps : List Place) → new ≡ begun_host event.Response up (responded_host r host) → rank (entered_by event.Response k new ps) (is_answered_in new) ≤ 10
-response_low k r host up new ps is = subst (λ n. rank (entered_by event.Response k n ps) (is_answered_in n) ≤ 10) (sym is) (by_places ps)
+response_low : (k : Link) (r : Response) (host : RuleHost) (up : Bool) (new : RuleHost) (ps : List Place) → new ≡ begun_host event.Response up (responded_host r host) → rank (entered_by event.Response k new ps) (is_answered_in new) ≤ 12
+response_low k r host up new ps is = subst (λ n. rank (entered_by event.Response k n ps) (is_answered_in n) ≤ 12) (sym is) (by_places ps)
   where
-    by_places : (ps : List Place) → (let h = begun_host event.Response up (responded_host r host) in rank (entered_by event.Response k h ps) (is_answered_in h) ≤ 10)
+    by_places : (ps : List Place) → (let h = begun_host event.Response up (responded_host r host) in rank (entered_by event.Response k h ps) (is_answered_in h) ≤ 12)
     by_places [] = let h = begun_host event.Response up (responded_host r host) in answered_low (http_in h).answer (http_in h) (is_answered_in h)
     by_places (p ∷ ps) = omega arith
 
-one_above : (answered : Bool) (n : ℕ) → n ≤ (if answered then 10 else 4) → n + 1 ≤ rank stage.Continuing answered
+-- behind what was gathered nothing more is collected, where no body asked for it
+wanted_none : (at : At) (up : Bool) (h : RuleHost) → wanted_more (http_in (begun_host at up h)) ≡ 0
+wanted_none at up h = by_http h.http
+  where
+    by_whole : (b : Bool) (n : ℕ) → (if b then 0 else min 0 n) ≡ 0
+    by_whole true n = refl
+    by_whole false n = omega arith
+
+    by_http : (o : Option Http) → wanted_more (http_known (option_map (http_begun h.net) o)) ≡ 0
+    by_http None = refl
+    by_http (Some x) = by_whole x.whole (payload_limit - length x.payload)
+
+request_data_low : (answer : Option Bool) (k : Link) (h : RuleHost) (reader : BodyState) → wanted_more (http_in h) ≡ 0 → rank (request_data_stage answer k h) (is_some answer) + 1 ≤ rank (stage.Gathering Client 1 reader) (is_some answer)
+request_data_low (Some closing) k h reader none = omega arith
+request_data_low None k h reader none =
+    let st = routed_stage (is_up k) (is_left (seen_host h)) in
+    let low = below_gathering (is_up k) (is_left (seen_host h)) false reader in
+    subst (λ n. rank (gathering_stage Client n (http_in h) st) false + 1 ≤ 5) (sym none) low
+
+response_data_low : (answer : Option Bool) (http : Http) (answered : Bool) → wanted_more http ≡ 0 → rank (response_stage answer http) answered + 1 ≤ 12
+response_data_low (Some closing) http answered none = omega arith
+response_data_low None http answered none = subst (λ n. rank (gathering_stage Server n http (stage.Heading Server)) answered + 1 ≤ 12) (sym none) (omega arith)
+
+gathered_low : (side : Side) (k : Link) (host : RuleHost) (up : Bool) (new : RuleHost) (ps : List Place) (reader : BodyState) → new ≡ begun_host (gathered_at side) up host → rank (entered_by (gathered_at side) k new ps) (is_answered_in new) + 1 ≤ rank (stage.Gathering side 1 reader) (is_answered_in new)
+gathered_low side k host up new ps reader is = subst (λ n. rank (entered_by (gathered_at side) k n ps) (is_answered_in n) + 1 ≤ rank (stage.Gathering side 1 reader) (is_answered_in n)) (sym is) (by_side side ps)
+  where
+    gate_low : (x : Side) (answered : Bool) → 1 + 1 ≤ rank (stage.Gathering x 1 reader) answered
+    gate_low Client true = omega arith
+    gate_low Client false = omega arith
+    gate_low Server answered = omega arith
+
+    by_side : (x : Side) (qs : List Place) → (let h = begun_host (gathered_at x) up host in rank (entered_by (gathered_at x) k h qs) (is_answered_in h) + 1 ≤ rank (stage.Gathering x 1 reader) (is_answered_in h))
+    by_side x (q ∷ qs) = gate_low x (is_answered_in (begun_host (gathered_at x) up host))
+    by_side Client [] = let h = begun_host event.RequestData up host in request_data_low (http_in h).answer k h reader (wanted_none event.RequestData up host)
+    by_side Server [] = let h = begun_host event.ResponseData up host in response_data_low (http_in h).answer (http_in h) (is_answered_in h) (wanted_none event.ResponseData up host)
+
+gathering_same : (side : Side) (m n : ℕ) (r q : BodyState) (answered : Bool) → rank (stage.Gathering side m r) answered ≡ rank (stage.Gathering side n q) answered
+gathering_same Client m n r q answered = refl
+gathering_same Server m n r q answered = refl
+
+gathering_few : (side : Side) (n : ℕ) (r : BodyState) (answered : Bool) → 1 ≤ rank (stage.Gathering side n r) answered
+gathering_few Client n r true = omega arith
+gathering_few Client n r false = omega arith
+gathering_few Server n r answered = omega arith
+
+-- what was gathered leaves whether a rule has answered
+unit_answer : (side : Side) (p q : intake.Gathered) → intake.GathersUnit side p q → q.http.answer ≡ p.http.answer
+unit_answer side p q (intake.Piece n k) = refl
+unit_answer side p q (intake.Line line size k) = refl
+
+gathers_answer : (side : Side) (from p : intake.Gathered) → intake.Gathers side from p → p.http.answer ≡ from.http.answer
+gathers_answer side from p intake.NoneYet = refl
+gathers_answer side from p (intake.Then m q g u) = unit_answer side m q u ∙ gathers_answer side from m g
+
+one_above : (answered : Bool) (n : ℕ) → n ≤ (if answered then 12 else 5) → n + 1 ≤ rank stage.Continuing answered
 one_above true n low = omega (arith, low)
 one_above false n low = omega (arith, low)
 
-next_low : (closes answered : Bool) → rank (next_by closes) answered ≤ 6
+next_low : (closes answered : Bool) → rank (next_by closes) answered ≤ 7
 next_low true answered = omega arith
 next_low false answered = omega arith
 
-message_low : (side : Side) (h : RuleHost) (answered : Bool) → rank (message_stage side h) answered ≤ 11
+message_low : (side : Side) (h : RuleHost) (answered : Bool) → rank (message_stage side h) answered ≤ 13
 message_low Client h answered = omega arith
 message_low Server h answered = by_spent (is_spent_link (seen_host h))
   where
-    by_spent : (x : Bool) → rank (spent_stage x (http_in h)) answered ≤ 11
+    by_spent : (x : Bool) → rank (spent_stage x (http_in h)) answered ≤ 13
     by_spent true = omega arith
     by_spent false = let k = next_low (client_closes (http_in h)) answered in omega (arith, k)
 
-server_low : (h : RuleHost) (answered : Bool) → rank (message_stage Server h) answered ≤ 8
+server_low : (h : RuleHost) (answered : Bool) → rank (message_stage Server h) answered ≤ 9
 server_low h answered = by_spent (is_spent_link (seen_host h))
   where
-    by_spent : (x : Bool) → rank (spent_stage x (http_in h)) answered ≤ 8
+    by_spent : (x : Bool) → rank (spent_stage x (http_in h)) answered ≤ 9
     by_spent true = omega arith
     by_spent false = let k = next_low (client_closes (http_in h)) answered in omega (arith, k)
 
@@ -360,7 +429,7 @@ gives_few behind.BehindMessage answered = omega arith
 -- where it leads, and that it comes nearer to a body or a note
 pub record Led (s : code.Setup) (old new : Conn) (before after : List Note) (did : Act) : Type 0 where
   pub starts : Starts s new
-  pub moves : did ≡ done.Goes → rank_of new + 15 * length before + 1 ≤ rank_of old + 15 * length after
+  pub moves : did ≡ done.Goes → rank_of new + 17 * length before + 1 ≤ rank_of old + 17 * length after
 
 module _ (s : code.Setup) (c : ℕ) (old new : Conn) (before after : List Note) (did : Act) where
   abbrev Leads : Type 0
@@ -398,15 +467,15 @@ module _ (s : code.Setup) (c : ℕ) (old new : Conn) (before after : List Note) 
   by_reply is quiet None k = entered event.Failed _ _ failed_low refl is quiet k
   by_reply is quiet (Some addr) k = entered event.Selected _ _ selected_low refl is quiet k
 
-  by_answer : rank_of old ≡ 14 → has_body old.stage ≡ false → (l : Link) → AnswersBy l s c old new before after did → Leads
+  by_answer : rank_of old ≡ 16 → has_body old.stage ≡ false → (l : Link) → AnswersBy l s c old new before after did → Leads
   by_answer is calm link.Made k =
       let low = connects_low link.Up new.host (places_at s event.Connected) (ap (λ h. h.net.wishes.ends) k.1.host) in
-      lower 14 is (subst (λ st. rank st (is_answered_in new.host) + 1 ≤ 14) (sym k.1.there) (omega (arith, low))) k.2 (enters s event.Connected _ _ old new k.1)
+      lower 16 is (subst (λ st. rank st (is_answered_in new.host) + 1 ≤ 16) (sym k.1.there) (omega (arith, low))) k.2 (enters s event.Connected _ _ old new k.1)
   by_answer is calm link.Refused k =
       let flag : is_answered_in new.host ≡ is_answered_in old.host = ap is_answered_in k.1.host ∙ answered_still event.Failed (is_up link.Absent) old.host in
       let r : rank_of new + 1 ≤ high (is_answered_in new.host) = subst (λ st. rank st (is_answered_in new.host) + 1 ≤ high (is_answered_in new.host)) (sym k.1.there) (failed_low.low link.Absent old.host (is_up link.Absent) new.host (places_at s event.Failed) k.1.host) in
       let few = high_few (is_answered_in new.host) in
-      lower 14 is (omega (arith, r, few)) k.2 (enters s event.Failed _ _ old new k.1)
+      lower 16 is (omega (arith, r, few)) k.2 (enters s event.Failed _ _ old new k.1)
   by_answer is calm link.Absent k = by_rest (cut_of old) old calm k
   by_answer is calm link.Asked k = by_rest (cut_of old) old calm k
   by_answer is calm link.Up k = by_rest (cut_of old) old calm k
@@ -443,33 +512,33 @@ module _ (s : code.Setup) (c : ℕ) (old new : Conn) (before after : List Note) 
       sends (rank stage.Continuing (is_answered_in old.host)) continue_text (asked_stage old.ends.link old.host) is (asked_no_body old.ends.link old.host) (one_above (is_answered_in old.host) _ low) k.2 k.1
   by_tell is calm false k = by_rest (cut_of old) old calm k
 
-  by_front : (reader : BodyState) (size : ℕ) → rank_of old ≡ 7 → (p : Part) → DropsBy p s c (dropped reader size old) new before after did → Leads
+  by_front : (reader : BodyState) (size : ℕ) → rank_of old ≡ 8 → (p : Part) → DropsBy p s c (dropped reader size old) new before after did → Leads
   by_front reader size is Byte k = absurd k
   by_front reader size is (Chunk line n) k = absurd k
   by_front reader size is (End n) k =
       let same : rank_of new ≡ rank (next_stage (http_in old.host)) (is_answered_in new.host) = ap (λ x. rank x (is_answered_in new.host)) k.1.there in
       let low = next_low (client_closes (http_in old.host)) (is_answered_in new.host) in
-      lower 7 is (omega (arith, same, low)) k.2 (inl (ap has_body k.1.there ∙ next_no_body (http_in old.host)))
+      lower 8 is (omega (arith, same, low)) k.2 (inl (ap has_body k.1.there ∙ next_no_body (http_in old.host)))
   by_front reader size is Pending k = by_rest (cut_of (dropped reader size old)) (dropped reader size old) refl k
   by_front reader size is (Bad f) k = by_answered (is_answered Client f) k
     where
       by_answered : (x : Bool) → RefusesBy x f s c (dropped reader size old) new before after did → Leads
       by_answered true k =
           let same : rank_of new ≡ 0 = ap (λ x. rank x (is_answered_in new.host)) k.1.there in
-          lower 7 is (omega (arith, same)) k.2 (inl (ap has_body k.1.there))
+          lower 8 is (omega (arith, same)) k.2 (inl (ap has_body k.1.there))
       by_answered false k = noted _ (closes s (dropped reader size old) new k.1.0) k.1.1
 
-  refuses : (f : HttpFault) → rank_of old ≡ 6 → (x : Bool) → RefusesBy x f s c old new before after did → Leads
-  refuses f is true k = sends 6 (refusal f) (stage.Finishing (finish.Http f)) is refl (omega arith) k.2 k.1
+  refuses : (f : HttpFault) → rank_of old ≡ 7 → (x : Bool) → RefusesBy x f s c old new before after did → Leads
+  refuses f is true k = sends 7 (refusal f) (stage.Finishing (finish.Http f)) is refl (omega arith) k.2 k.1
   refuses f is false k = noted _ (closes s old new k.1.0) k.1.1
 
-  by_request : (n : ℕ) → rank_of old ≡ 6 → (r : Result Request HttpFault) → RequestBy r n s c old new before after did → Leads
+  by_request : (n : ℕ) → rank_of old ≡ 7 → (r : Result Request HttpFault) → RequestBy r n s c old new before after did → Leads
   by_request n is (Ok r) k =
-      let low : rank_of new ≤ 5 = subst (λ st. rank st (is_answered_in new.host) ≤ 5) (sym k.1.there) (request_low old.ends.link r old.host (is_up old.ends.link) new.host (places_at s event.Request) k.1.host) in
-      lower 6 is (omega (arith, low)) k.2 (enters s event.Request _ _ old new k.1)
+      let low : rank_of new ≤ 6 = subst (λ st. rank st (is_answered_in new.host) ≤ 6) (sym k.1.there) (request_low old.ends.link r old.host (is_up old.ends.link) new.host (places_at s event.Request) k.1.host) in
+      lower 7 is (omega (arith, low)) k.2 (enters s event.Request _ _ old new k.1)
   by_request n is (Err f) k = refuses f is (is_answered Client f) k
 
-  by_head : rank_of old ≡ 6 → has_body old.stage ≡ false → (p : HeadPart) → HeadBy p s c old new before after did → Leads
+  by_head : rank_of old ≡ 7 → has_body old.stage ≡ false → (p : HeadPart) → HeadBy p s c old new before after did → Leads
   by_head is calm (HeadOf n) k = by_request n is (request_of (take n old.ends.client.unread)) k
   by_head is calm StreamEnds k = noted _ (closes s old new k.1.0) k.1.1
   by_head is calm (Faulty f) k = refuses f is (is_answered Client f) k
@@ -548,8 +617,39 @@ module _ (s : code.Setup) (c : ℕ) (old new : Conn) (before after : List Note) 
             lower _ at_mid (omega (arith, none, few)) k.2 (inl (ap has_body k.1.there))
         by_fault false k = noted _ (closes s mid new k.1.0) k.1.1
 
+  -- a body that is gathered
+  module _ (side : Side) (wanted : ℕ) (reader : BodyState) (to : intake.Gathered) (passes : intake.Gathers side (intake.gathered (record { wanted = wanted; reader = reader }) (http_in old.host) old.ends) to) (is : rank_of old ≡ rank (stage.Gathering side wanted reader) (is_answered_in old.host)) where
+    abbrev so_far : Conn
+    so_far = intake.gathered_to side to old
+
+    at_first : rank_of old ≡ rank (stage.Gathering side 1 reader) (is_answered_in old.host)
+    at_first = is ∙ gathering_same side wanted 1 reader reader (is_answered_in old.host)
+
+    by_event : (n : ℕ) (http : Http) → http.answer ≡ to.http.answer → intake.EntersGathered side n http s so_far new → after ≡ before → Leads
+    by_event n http same k quiet =
+        let e = read_ends side n to.ends in
+        let h = intake.http_of_host http so_far.host in
+        let flag : is_answered_in new.host ≡ is_answered_in old.host = ap is_answered_in k.host ∙ answered_still (gathered_at side) (is_up e.link) h ∙ ap is_some (same ∙ gathers_answer side _ to passes) in
+        let r : rank_of new + 1 ≤ rank (stage.Gathering side 1 reader) (is_answered_in new.host) =
+        subst (λ st. rank st (is_answered_in new.host) + 1 ≤ rank (stage.Gathering side 1 reader) (is_answered_in new.host)) (sym k.there) (gathered_low side e.link h (is_up e.link) new.host (places_at s (gathered_at side)) reader k.host) in
+        lower (rank (stage.Gathering side 1 reader) (is_answered_in old.host)) at_first (subst (λ b. rank_of new + 1 ≤ rank (stage.Gathering side 1 reader) b) flag r) quiet (enters s (gathered_at side) h e so_far new k)
+
+    by_gathered : (p : Part) → intake.GathersBy p side to.at s c so_far new before after did → Leads
+    by_gathered Byte k = by_event 1 (with_gathered (take 1 (end_of side to.ends).unread) (after_byte to.at.reader) to.http) refl k.2 k.3
+    by_gathered (Chunk line size) k = absurd k
+    by_gathered (End n) k = by_event n (with_whole to.http) refl k.1 k.2
+    by_gathered Pending k = by_rest (cut_by (is_server side) so_far) so_far refl k
+    by_gathered (Bad f) k = by_fault (is_answered side f) k
+      where
+        by_fault : (x : Bool) → RefusesBy x f s c so_far new before after did → Leads
+        by_fault true k =
+            let none : rank_of new ≡ 0 = ap (λ x. rank x (is_answered_in new.host)) k.1.there in
+            let few = gathering_few side 1 reader (is_answered_in old.host) in
+            lower _ at_first (omega (arith, none, few)) k.2 (inl (ap has_body k.1.there))
+        by_fault false k = noted _ (closes s so_far new k.1.0) k.1.1
+
   -- a response
-  module _ (to : Ends) (is : rank_of old ≡ 11) (calm : has_body old.stage ≡ false) where
+  module _ (to : Ends) (is : rank_of old ≡ 13) (calm : has_body old.stage ≡ false) where
     abbrev before_final : Conn
     before_final = with_ends to old
 
@@ -557,8 +657,8 @@ module _ (s : code.Setup) (c : ℕ) (old new : Conn) (before after : List Note) 
     by_status n r true y k = noted _ (closes s before_final new k.1.0) k.1.1
     by_status n r false true k = by_rest (cut_of before_final) before_final calm k.1
     by_status n r false false k =
-        let low : rank_of new ≤ 10 = subst (λ st. rank st (is_answered_in new.host) ≤ 10) (sym k.1.there) (response_low to.link r old.host (is_up to.link) new.host (places_at s event.Response) k.1.host) in
-        lower 11 is (omega (arith, low)) k.2 (enters s event.Response _ _ before_final new k.1)
+        let low : rank_of new ≤ 12 = subst (λ st. rank st (is_answered_in new.host) ≤ 12) (sym k.1.there) (response_low to.link r old.host (is_up to.link) new.host (places_at s event.Response) k.1.host) in
+        lower 13 is (omega (arith, low)) k.2 (enters s event.Response _ _ before_final new k.1)
 
     by_read : (x : Answer) → AnswerBy x s c before_final new before after did → Leads
     by_read (answer.Head n r) k = by_status n r (switches r) (is_interim r.head) k
@@ -588,7 +688,7 @@ module _ (s : code.Setup) (c : ℕ) (old new : Conn) (before after : List Note) 
       by_stage stage.Collecting is k = by_collect calm (meets old.host.net.client.asks old.ends.client.unread) k
       by_stage stage.AtHead is k = by_head (at_rank is) calm (head_part old.ends.client.unread old.ends.client.ended) k.1
       by_stage stage.Continuing is (spoken, k) = by_tell (at_rank is) calm (client_room old) k
-      by_stage (stage.Gathering side wanted reader) is k = absurd k
+      by_stage (stage.Gathering side wanted reader) is (spoken, k) = by_gathered side wanted reader k.to k.passes (at_rank is) (part_there side k.to) k.goes
       by_stage stage.AtReuse is k = noted _ (inl (ap has_body k.1.becomes.there ∙ reuse_no_body (is_whole old.ends.server))) k.1.noted
       by_stage (stage.GivingUp w) is k = by_giving w (at_rank is) k.2 k.1
       by_stage (stage.Retiring w) is k = by_retiring w (at_rank is) k.1
@@ -605,13 +705,13 @@ module _ (s : code.Setup) (c : ℕ) (old new : Conn) (before after : List Note) 
 
 -- so each action that goes on comes nearer to a note or counts a step
 pub progress : (s : code.Setup) (c : ℕ) (old new : Conn) (before after : List Note) (ticks : ℕ) → Acted s c old new before after done.Goes ticks → (is_running old.stage ≡ true → 1 ≤ ticks) → length before ≤ length after
-    → rank_of new + 15 * length before + 1 ≤ rank_of old + 15 * (ticks + length after)
+    → rank_of new + 17 * length before + 1 ≤ rank_of old + 17 * (ticks + length after)
 progress s c old new before after ticks k counts grows = by_stage old.stage refl k
   where
-    outside : (st : Stage) → old.stage ≡ st → has_body st ≡ false → rank_of new + 15 * length before + 1 ≤ rank_of old + 15 * (ticks + length after)
+    outside : (st : Stage) → old.stage ≡ st → has_body st ≡ false → rank_of new + 17 * length before + 1 ≤ rank_of old + 17 * (ticks + length after)
     outside st is calm = let m = (outside_led s c old new before after done.Goes ticks k (ap has_body is ∙ calm)).moves refl in omega (arith, m)
 
-    by_stage : (st : Stage) → old.stage ≡ st → ActedAt st s c old new before after done.Goes ticks → rank_of new + 15 * length before + 1 ≤ rank_of old + 15 * (ticks + length after)
+    by_stage : (st : Stage) → old.stage ≡ st → ActedAt st s c old new before after done.Goes ticks → rank_of new + 17 * length before + 1 ≤ rank_of old + 17 * (ticks + length after)
     by_stage (stage.Running at n) is k = let t = counts (ap is_running is) in let r = rank_few new.stage (is_answered_in new.host) in omega (arith, t, r, grows)
     by_stage (stage.Asking at n) is k = absurd (let e = k.0 in cc)
     by_stage other is k = outside other is refl

@@ -49,6 +49,7 @@ pub mod RelayItems
 pub mod CutItems
 pub mod PassItems
 pub mod Pending
+mod GatherUnits
 pub mod Gating
 pub mod Choosing
 pub mod Linking
@@ -61,3 +62,4 @@ pub mod Changing
 mod Outside
 pub mod SliceRows
 mod ServerRows
+pub mod Gathering

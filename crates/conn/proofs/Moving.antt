@@ -138,7 +138,7 @@ pub read_link : (side : Side) (n : ℕ) (e : Ends) → (read_ends side n e).link
 read_link Client n e = refl
 read_link Server n e = refl
 
-keeps_vars : (side : Side) (n : ℕ) (l : TraceState) → (read_side side n l).vars ≡ l.vars
+pub keeps_vars : (side : Side) (n : ℕ) (l : TraceState) → (read_side side n l).vars ≡ l.vars
 keeps_vars Client n l = refl
 keeps_vars Server n l = refl
 
@@ -146,11 +146,11 @@ keeps_host : (side : Side) (n : ℕ) (l : TraceState) → (read_side side n l).h
 keeps_host Client n l = refl
 keeps_host Server n l = refl
 
-keeps_answers : (side : Side) (n : ℕ) (l : TraceState) → (read_side side n l).answers ≡ l.answers
+pub keeps_answers : (side : Side) (n : ℕ) (l : TraceState) → (read_side side n l).answers ≡ l.answers
 keeps_answers Client n l = refl
 keeps_answers Server n l = refl
 
-keeps_finished : (side : Side) (n : ℕ) (l : TraceState) → (read_side side n l).finished ≡ l.finished
+pub keeps_finished : (side : Side) (n : ℕ) (l : TraceState) → (read_side side n l).finished ≡ l.finished
 keeps_finished Client n l = refl
 keeps_finished Server n l = refl
 

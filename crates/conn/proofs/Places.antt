@@ -26,7 +26,7 @@ use Rattle.conn_trace.specs.Host.{HostState, body_setting, http_of}
 use Rattle.conn_trace.specs.Http.{wanted_more}
 use Rattle.conn_trace.specs.Item.{Unselected}
 use Rattle.conn_trace.specs.Places as model
-use Rattle.conn_trace.specs.Routing.{behind_accept, behind_accepted, behind_answer, behind_connect, behind_connected, behind_failed, behind_request, behind_response, behind_told, gathering, is_left, routed}
+use Rattle.conn_trace.specs.Routing.{behind_accept, behind_accepted, behind_answer, behind_connect, behind_connected, behind_failed, behind_request, behind_request_data, behind_response, behind_told, gathering, is_left, routed}
 use Rattle.conn_trace.specs.Places.{Place, place, at as put, after_event, after_server, begun, giving_up, behind_data, bodies_left, closed, closed_client, closed_server, connecting, enter, entered, http_begun, next_body}
 use Rattle.conn_trace.specs.Setup.{Handler, Setup}
 use Rattle.conn_trace.specs.State.{Absent, AtReuse, BeforeSelect, Choosing, Collecting, Finishing, Gated, GivingUp, Heading, Relaying, Running, InEvent, Phase, TraceState, link_of}
@@ -43,7 +43,7 @@ use Rattle.conn.specs.Events.{event_of, is_closed, is_closing}
 use Rattle.conn.specs.Holds.{Around, Between, BodyGoesOn, GatedBefore, HoldsEnds, RunsFirst, Stands}
 use Rattle.conn.specs.Hosts.{Told, begun_host, seen_host}
 use Rattle.conn.specs.Setups.{body_at, body_in, places_at, Serves}
-use Rattle.conn.specs.Stages.{InEvent as HostIn, accepted_stage, after_stage, at_fits, collect_stage, connected_stage, connecting_stage, data_stage, entered_by, failed_stage, fits, gathering_stage, has_finished, is_asking, leaving_stage, loose_stage, request_stage, response_stage, routed_stage, unless_ended}
+use Rattle.conn.specs.Stages.{InEvent as HostIn, accepted_stage, after_stage, at_fits, collect_stage, connected_stage, connecting_stage, data_stage, entered_by, failed_stage, fits, gathering_stage, has_finished, is_asking, leaving_stage, loose_stage, request_data_stage, request_stage, response_stage, routed_stage, unless_ended}
 use Rattle.conn.specs.declared.connection.Conn.{Conn}
 use Rattle.conn.specs.declared.ends.Behind.{Behind}
 use Rattle.conn.specs.declared.ends.End.{End}
@@ -267,6 +267,10 @@ module _ (g : Setup) (l : TraceState) where
       by_request x (Some closing) = by_answered x closing (expects_by (http_of (seen_host new.host)).came)
       by_request x None = by_expects x (expects_by (http_of (seen_host new.host)).came)
 
+      by_request_data : (x : Link) (o : Option Bool) → Stands g (request_data_stage o x new.host) (here (behind_request_data o (link_by x) (seen_host new.host))) new
+      by_request_data x (Some closing) = (refl, between _)
+      by_request_data x None = by_wanted x (wanted_more (http_of (seen_host new.host)))
+
       -- and a response
       by_gathered : (n : ℕ) → Stands g (gathering_stage Server n (http_of (seen_host new.host)) (stage.Heading Server)) (here (gathering Server n (seen_host new.host) (Heading Server))) new
       by_gathered zero = (refl, between _)
@@ -315,7 +319,9 @@ module _ (g : Setup) (l : TraceState) where
       by_event event.Failed p fit is = by_end new.host.net.wishes.ends _ _ (by_failed (http_of (seen_host new.host)).answer)
       by_event event.Connected p fit is = by_end new.host.net.wishes.ends _ _ (by_connect (is_some new.host.http))
       by_event event.Request p fit is = by_end new.host.net.wishes.ends _ _ (by_request k (http_of (seen_host new.host)).answer)
+      by_event event.RequestData p fit is = by_end new.host.net.wishes.ends _ _ (by_request_data k (http_of (seen_host new.host)).answer)
       by_event event.Response p fit is = by_end new.host.net.wishes.ends _ _ (by_response (http_of (seen_host new.host)).answer)
+      by_event event.ResponseData p fit is = by_end new.host.net.wishes.ends _ _ (by_response (http_of (seen_host new.host)).answer)
       by_event event.Leaving p fit is = by_leaving k fit fin is
       by_event event.ServerData p fit is = by_end new.host.net.wishes.ends (stage.Relaying Client) Relaying (refl, between _)
       by_event event.ServerClosed p fit is = absurd (p refl)
@@ -408,7 +414,9 @@ module _ (g : Setup) (l : TraceState) where
     leaves_gone event.Failed fin mid new k f fit is = goes_gone event.Failed fin mid new (λ e. cc) k f fit is
     leaves_gone event.Connected fin mid new k f fit is = goes_gone event.Connected fin mid new (λ e. cc) k f fit is
     leaves_gone event.Request fin mid new k f fit is = goes_gone event.Request fin mid new (λ e. cc) k f fit is
+    leaves_gone event.RequestData fin mid new k f fit is = goes_gone event.RequestData fin mid new (λ e. cc) k f fit is
     leaves_gone event.Response fin mid new k f fit is = goes_gone event.Response fin mid new (λ e. cc) k f fit is
+    leaves_gone event.ResponseData fin mid new k f fit is = goes_gone event.ResponseData fin mid new (λ e. cc) k f fit is
     leaves_gone event.Leaving fin mid new k f fit is = goes_gone event.Leaving fin mid new (λ e. cc) k f fit is
     leaves_gone event.ServerData fin mid new k f fit is = goes_gone event.ServerData fin mid new (λ e. cc) k f fit is
     leaves_gone event.ServerClosed fin mid new k f fit is = subst (λ b. GoneTo g b (after_event g (event_of event.ServerClosed) b (link_by mid.ends.link) (seen_host mid.host)) l mid.ends new) (sym is) (client_gone mid new k f)

@@ -38,7 +38,7 @@ abbrev pub GoesOrRests : code_setup.Setup → ℕ → Conn → Conn → List Not
 GoesOrRests s c base new before after did = (did ≡ done.Goes) ⊎ ((waits : Bool) × RestsAs waits s c base new before after did)
 
 module _ (s : code_setup.Setup) (c : ℕ) (base new : Conn) (before after : List Note) (did : step_act.Act) where
-  refuses_or : (x : Bool) (f : HttpFault) → RefusesBy x f s c base new before after did → GoesOrRests s c base new before after did
+  pub refuses_or : (x : Bool) (f : HttpFault) → RefusesBy x f s c base new before after did → GoesOrRests s c base new before after did
   refuses_or true f k = inl k.0
   refuses_or false f k = inl k.0
 

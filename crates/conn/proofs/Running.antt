@@ -404,14 +404,14 @@ counts_on old spent spent' steps steps' inside outside sum = (
     by_stage false still = let k = outside still in omega (arith, k, sum)
 
 -- so many actions aren't made by a Run that counted no more and gave fewer notes
-pub whole_at_last : (actions rank given spent notes : ℕ) → actions + rank + 15 * given ≤ 15 * (spent + notes) + 14 → 31000 ≤ actions → (1990 < spent) ⊎ (64 ≤ notes - given)
+pub whole_at_last : (actions rank given spent notes : ℕ) → actions + rank + 17 * given ≤ 17 * (spent + notes) + 16 → 35200 ≤ actions → (1990 < spent) ⊎ (64 ≤ notes - given)
 whole_at_last actions rank given spent notes k most = by_count (nat_lt 1990 spent) refl
   where
     by_count : (b : Bool) → nat_lt 1990 spent ≡ b → (1990 < spent) ⊎ (64 ≤ notes - given)
     by_count true more = inl (grind (arith, nat_tests, more))
     by_count false few = inr (let least : spent ≤ 1990 = grind (arith, nat_tests, few) in omega (arith, k, most, least))
 
-pub some_counted : (actions rank given spent notes before : ℕ) → given ≡ before → actions + rank + 15 * given ≤ 15 * (spent + notes) + 14 → 31000 ≤ actions → (0 < spent) ⊎ (before < notes)
+pub some_counted : (actions rank given spent notes before : ℕ) → given ≡ before → actions + rank + 17 * given ≤ 17 * (spent + notes) + 16 → 35200 ≤ actions → (0 < spent) ⊎ (before < notes)
 some_counted actions rank given spent notes before is k most = by_whole (whole_at_last actions rank given spent notes k most)
   where
     by_whole : (1990 < spent) ⊎ (64 ≤ notes - given) → (0 < spent) ⊎ (before < notes)

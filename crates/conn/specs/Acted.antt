@@ -11,11 +11,11 @@ use Rattle.conn.specs.declared.turn.Act.TheVariants as act
 use Rattle.conn.specs.Acts.{Answers, BehindFault, Collects, ConnectsNext, DropsBody, Finishes}
 use Rattle.conn.specs.Acts.{PassesGate, PassesReleased, ReadsHead, Relays, TellsToGoOn}
 use Rattle.conn.specs.Choosing.{Chooses, TakesChosen}
+use Rattle.conn.specs.Gathering.{GathersBody}
 use Rattle.conn.specs.Messages.{ForwardsBody, GivesUp, ReadsResponse, Retires, Reuses, SendsHead}
 use Rattle.conn.specs.Steps.{BodyMoved}
 
--- What one action does, by where the connection stands; a body's step alone ticks. While a body is
--- gathered nothing is done yet.
+-- What one action does, by where the connection stands; a body's step alone ticks.
 abbrev pub ActedAt : Stage → Setup → ℕ → Conn → Conn → List Note → List Note → Act → (ticks : ℕ)
     → Type 0
 ActedAt (stage.Gated at) s c old new before after a ticks =
@@ -41,7 +41,8 @@ ActedAt stage.AtHead s c old new before after a ticks =
     (is_some old.host.http ≡ true) × ReadsHead s c old new before after a
 ActedAt stage.Continuing s c old new before after a ticks =
     (is_some old.host.http ≡ true) × TellsToGoOn s c old new before after a
-ActedAt (stage.Gathering side wanted reader) s c old new before after a ticks = ⊥
+ActedAt (stage.Gathering side wanted reader) s c old new before after a ticks =
+    (is_some old.host.http ≡ true) × GathersBody side wanted reader s c old new before after a
 ActedAt (stage.Dropping reader) s c old new before after a ticks =
     (is_some old.host.http ≡ true) × DropsBody reader s c old new before after a
 ActedAt stage.AtReuse s c old new before after a ticks =

@@ -5,7 +5,8 @@ use Rattle.conn.specs.declared.connection.Conn.{Conn}
 use Rattle.conn.specs.declared.ends.Ends.{Ends}
 use Rattle.conn.specs.declared.events.At.{At}
 use Rattle.conn.specs.declared.events.At.TheVariants.{Accepted, ClientData, Selected, Failed}
-use Rattle.conn.specs.declared.events.At.TheVariants.{Connected, Request, Response, ServerData}
+use Rattle.conn.specs.declared.events.At.TheVariants.{Connected, Request, RequestData, Response}
+use Rattle.conn.specs.declared.events.At.TheVariants.{ResponseData, ServerData}
 use Rattle.conn.specs.declared.events.At.TheVariants.{Leaving}
 use Rattle.conn.specs.declared.ends.Behind.{Behind}
 use Rattle.conn.specs.declared.ends.Link.TheVariants as link
@@ -64,7 +65,9 @@ Leaves s Selected old new = GoesTo (left_stage Selected old) old new
 Leaves s Failed old new = GoesTo (left_stage Failed old) old new
 Leaves s Connected old new = GoesTo (left_stage Connected old) old new
 Leaves s Request old new = GoesTo (left_stage Request old) old new
+Leaves s RequestData old new = GoesTo (left_stage RequestData old) old new
 Leaves s Response old new = GoesTo (left_stage Response old) old new
+Leaves s ResponseData old new = GoesTo (left_stage ResponseData old) old new
 Leaves s Leaving old new = GoesTo (left_stage Leaving old) old new
 Leaves s ServerData old new = GoesTo (left_stage ServerData old) old new
 Leaves s Closed old new = GoesTo (left_stage Closed old) old new

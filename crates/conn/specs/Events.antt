@@ -14,8 +14,10 @@ event_of at.Selected = event.LbSelected
 event_of at.Failed = event.LbFailed
 event_of at.Connected = event.ServerConnected
 event_of at.Request = event.HttpRequest
+event_of at.RequestData = event.HttpRequestData
 event_of at.ServerData = event.ServerData
 event_of at.Response = event.HttpResponse
+event_of at.ResponseData = event.HttpResponseData
 event_of at.Leaving = event.ServerClosed
 event_of at.ServerClosed = event.ServerClosed
 event_of at.Closed = event.ClientClosed
@@ -37,6 +39,11 @@ is_closing other = false
 abbrev pub data_at : Side → At
 data_at Client = at.ClientData
 data_at Server = at.ServerData
+
+-- the event of the bytes of a body that a rule collects
+abbrev pub gathered_at : Side → At
+gathered_at Client = at.RequestData
+gathered_at Server = at.ResponseData
 
 abbrev pub is_data : At → Bool
 is_data at.ClientData = true

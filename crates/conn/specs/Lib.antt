@@ -15,6 +15,7 @@ pub mod Seen
 pub mod Queues
 pub mod Acts
 pub mod Forwarding
+pub mod Gathering
 pub mod Messages
 pub mod Acted
 pub mod Holds

@@ -38,7 +38,7 @@ use Rattle.conn.specs.declared.stage.Stage.TheVariants as stage
 use Rattle.conn.specs.declared.setup.Place.{Place}
 use Rattle.conn.specs.declared.setup.Setup.{Setup}
 use Rattle.conn.specs.Ends.{is_leaving, is_settled, is_sought, is_up}
-use Rattle.conn.specs.Events.{event_of, is_closed, is_closing, is_data, is_event_of}
+use Rattle.conn.specs.Events.{event_of, gathered_at, is_closed, is_closing, is_data, is_event_of}
 use Rattle.conn.specs.Hosts.{seen_host}
 use Rattle.conn.specs.Setups.{places_at}
 
@@ -128,6 +128,11 @@ request_stage (Some closing) false link h = stage.Dropping (http_in h).reader
 request_stage None true link h = stage.Continuing
 request_stage None false link h = asked_stage link h
 
+-- so much of a request's body was gathered: a rule answered, or it goes on
+abbrev pub request_data_stage : Option Bool → Link → RuleHost → Stage
+request_data_stage (Some closing) link h = stage.Dropping (http_in h).reader
+request_data_stage None link h = asked_stage link h
+
 -- a rule answered in place of the response, or that is sent on, its body gathered first
 abbrev pub response_stage : Option Bool → Http → Stage
 response_stage (Some closing) http = stage.GivingUp behind.BehindMessage
@@ -175,8 +180,10 @@ goes_on_stage at.Failed link h =
 goes_on_stage at.Connected link h = connected_stage (is_some h.http) h.net.loose
 goes_on_stage at.Request link h =
     request_stage (http_in h).answer (expects_by (http_in h).came) link h
+goes_on_stage at.RequestData link h = request_data_stage (http_in h).answer link h
 goes_on_stage at.ServerData link h = stage.Relaying Client
 goes_on_stage at.Response link h = response_stage (http_in h).answer (http_in h)
+goes_on_stage at.ResponseData link h = response_stage (http_in h).answer (http_in h)
 goes_on_stage at.Leaving link h = leaving_stage link
 goes_on_stage at.ServerClosed link h = stage.Draining
 goes_on_stage at.Closed link h = stage.Draining
@@ -279,7 +286,9 @@ at_fits at.ClientData link = is_settled link
 at_fits at.Connected link = is_up link
 at_fits at.ServerData link = is_up link
 at_fits at.Request link = is_settled link
+at_fits at.RequestData link = is_settled link
 at_fits at.Response link = is_up link
+at_fits at.ResponseData link = is_up link
 at_fits at.Leaving link = is_leaving link
 at_fits at.ServerClosed link = true
 at_fits at.Closed link = true
@@ -298,7 +307,7 @@ fits (stage.Answering to) link = is_sought link && not (is_up link)
 fits stage.Collecting link = not (is_sought link)
 fits stage.AtHead link = is_settled link
 fits stage.Continuing link = is_settled link
-fits (stage.Gathering side wanted reader) link = is_settled link
+fits (stage.Gathering side wanted reader) link = at_fits (gathered_at side) link
 fits (stage.Dropping reader) link = is_settled link
 fits stage.AtReuse link = is_up link
 fits (stage.GivingUp b) link = is_up link

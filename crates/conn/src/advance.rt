@@ -10,12 +10,13 @@ use crate::connection::Conn;
 use crate::ends::ROOM;
 use crate::events::At;
 use crate::forward::Standing;
+use crate::gather::Portion;
 use crate::setup::Setup;
 use crate::stage::{Finish, Stage};
 use crate::turn::Act;
 use core_events::{CutReason, Note, Notes};
 use frames::Moves;
-use px_bytes::{FaultKind, M, Memory, Side, Steps};
+use px_bytes::{FaultKind, M, Side, Steps};
 use std::alloc::Global;
 use std::mem;
 use std::sync::ledger::Ledger;
@@ -90,7 +91,11 @@ impl Conn {
                 Ok(Act::Goes)
             }
             Stage::AtHead => self.read_head(alloc, setup, number, notes),
-            Stage::Gathering { .. } => Err(Memory),
+            Stage::Gathering {
+                side,
+                wanted,
+                reader,
+            } => self.gather(setup, number, side, Portion { wanted, reader }, notes),
             Stage::Continuing => self.tell_to_go_on(setup, number, notes),
             Stage::Dropping(reader) => self.drop_body(setup, number, reader, notes),
             Stage::AtReuse => {

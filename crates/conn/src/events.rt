@@ -1,7 +1,8 @@
 // The events that a connection comes to.
 
 ghost use Rattle.std.specs.Prelude.{◌≡◌};
-ghost use Rattle.conn.specs.Events.{data_at, event_of, is_closed, is_closing, is_data, is_event_of};
+ghost use Rattle.conn.specs.Events.{data_at, event_of, gathered_at, is_closed, is_closing, is_data};
+ghost use Rattle.conn.specs.Events.{is_event_of};
 
 use event_order::EventName;
 use px_bytes::Side;
@@ -21,8 +22,12 @@ pub enum At {
     Connected,
     /// A request's head was read.
     Request,
+    /// Bytes of a request's body that a rule collects were gathered.
+    RequestData,
     /// The head of a response was read.
     Response,
+    /// Bytes of a response's body that a rule collects were gathered.
+    ResponseData,
     /// A collect of its server's bytes was met.
     ServerData,
     /// Its server connection is given up.
@@ -45,8 +50,10 @@ impl At {
             At::Failed => EventName::LbFailed,
             At::Connected => EventName::ServerConnected,
             At::Request => EventName::HttpRequest,
+            At::RequestData => EventName::HttpRequestData,
             At::ServerData => EventName::ServerData,
             At::Response => EventName::HttpResponse,
+            At::ResponseData => EventName::HttpResponseData,
             At::Leaving | At::ServerClosed => EventName::ServerClosed,
             At::Closed => EventName::ClientClosed,
         }
@@ -73,6 +80,16 @@ impl At {
         match side {
             Side::Client => At::ClientData,
             Side::Server => At::ServerData,
+        }
+    }
+
+    /// The event of the bytes of a body that a rule collects.
+    pub fn gathered(side: Side) -> At
+        ensures { result ≡ gathered_at side }
+    {
+        match side {
+            Side::Client => At::RequestData,
+            Side::Server => At::ResponseData,
         }
     }
 

@@ -44,8 +44,8 @@ impl Ends {
         Err(Memory)
     }
 
-    // What stands in front of a side.
-    fn next_unit(&mut self, side: Side, reader: BodyState) -> Unit
+    /// What stands in front of a side.
+    pub(crate) fn next_unit(&mut self, side: Side, reader: BodyState) -> Unit
         ensures value { LooksAt side reader self.old result }
         ensures same { self.new ≡ self.old }
     {
@@ -207,8 +207,8 @@ fn is_counted(reader: BodyState) -> bool
     matches!(reader, BodyState::Left(_) | BodyState::ToEnd)
 }
 
-// The line of a chunk, behind the CRLF of the one before.
-fn chunk_line(alloc: Global, standing: bool, size: u64) -> M<Text>
+/// The line of a chunk, behind the CRLF of the one before.
+pub(crate) fn chunk_line(alloc: Global, standing: bool, size: u64) -> M<Text>
     ensures { IfOk result (λ text. text ≡ chunk_line standing size) }
 {
     let mut text = Text::new(alloc, closing(standing))?;
@@ -217,8 +217,8 @@ fn chunk_line(alloc: Global, standing: bool, size: u64) -> M<Text>
     Ok(text)
 }
 
-// The end of a chunked body, behind the CRLF of the last chunk.
-fn last_line(alloc: Global, standing: bool) -> M<Text>
+/// The end of a chunked body, behind the CRLF of the last chunk.
+pub(crate) fn last_line(alloc: Global, standing: bool) -> M<Text>
     ensures { IfOk result (λ text. text ≡ last_line standing) }
 {
     let mut text = Text::new(alloc, closing(standing))?;

@@ -4,6 +4,7 @@ ghost use Rattle.std.specs.Prelude.{◌≡◌, ◌+◌, ◌≤◌, is_some, leng
 ghost use Rattle.conn.specs.Messages.{SendsHead};
 
 use crate::connection::Conn;
+use crate::payload::push_payload;
 use crate::routing::behind_head;
 use crate::setup::Setup;
 use crate::turn::Act;
@@ -13,8 +14,8 @@ use px_bytes::{M, Memory, Side};
 use std::alloc::Global;
 
 impl Conn {
-    /// Sends the head of a side's message to the other side, where there is room. Where something of its body
-    /// was gathered it ends as where memory is refused.
+    /// Sends the head of a side's message to the other side, with what was gathered of its body, where there is
+    /// room.
     pub(crate) fn send_head(
         &mut self,
         alloc: Global,
@@ -37,13 +38,11 @@ impl Conn {
         let Some(http) = &self.host.http else {
             return Err(Memory);
         };
-        if http.gathered.is_some() {
-            return Err(Memory);
-        }
         if !self.ends.has_room(side) {
             return Ok(self.rest_or_cut(setup, number, notes));
         }
-        let head = sent_head(alloc, side, http)?;
+        let mut head = sent_head(alloc, side, http)?;
+        push_payload(alloc, &mut head, http)?;
         self.ends.send(side, head.as_bytes())?;
         self.stage = behind_head(side, &self.host);
         Ok(Act::Goes)

@@ -11,7 +11,8 @@ ghost use Rattle.conn_trace.specs.SentBodies.{opens};
 ghost use Rattle.conn.specs.Ends.{is_up};
 ghost use Rattle.conn.specs.Hosts.{seen_host};
 ghost use Rattle.conn.specs.Stages.{asked_stage, failed_stage, gathering_stage, headed_stage, http_in};
-ghost use Rattle.conn.specs.Stages.{message_stage, next_stage, request_stage, response_stage};
+ghost use Rattle.conn.specs.Stages.{message_stage, next_stage, request_data_stage, request_stage};
+ghost use Rattle.conn.specs.Stages.{response_stage};
 ghost use Rattle.conn.specs.Stages.{retired_stage, routed_stage};
 
 use crate::ends::{Behind, Link};
@@ -51,6 +52,16 @@ pub(crate) fn behind_request(link: Link, host: &RuleHost) -> Stage
         (true, false) => Stage::Dropping(http.reader),
         (false, true) => Stage::Continuing,
         (false, false) => asked(link, host),
+    }
+}
+
+/// Where it goes behind HTTP_REQUEST_DATA.
+pub(crate) fn behind_request_data(link: Link, host: &RuleHost) -> Stage
+    ensures { result ≡ request_data_stage (http_in host.now).answer link host.now }
+{
+    match &host.http {
+        Some(http) if http.answer.is_some() => Stage::Dropping(http.reader),
+        _ => asked(link, host),
     }
 }
 

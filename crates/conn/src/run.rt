@@ -21,9 +21,9 @@ const MOST_STEPS: u64 = 1_990;
 
 const MOST_NOTES: usize = 64;
 
-/// More actions than a Run makes: no more than fourteen are made one after another that are neither counted
+/// More actions than a Run makes: no more than sixteen are made one after another that are neither counted
 /// nor noted.
-const MOST_ACTIONS: u64 = 31_000;
+const MOST_ACTIONS: u64 = 35_200;
 
 impl Conn {
     /// Goes on until it waits, is over, its bodies counted more than 1,990 steps or it gave 64 notes.

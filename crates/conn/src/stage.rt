@@ -9,7 +9,7 @@ ghost use Rattle.conn.specs.Stages.{is_draining, is_relaying, leaving_stage, nex
 use crate::ends::{Behind, Link};
 use crate::events::At;
 use crate::host::RuleHost;
-use crate::routing::{behind_failed, behind_request, behind_response};
+use crate::routing::{behind_failed, behind_request, behind_request_data, behind_response};
 use core_events::{Cause, CutReason};
 use http_frames::BodyState;
 use irule_net::{Asks, Ending, Selected};
@@ -181,7 +181,8 @@ impl Stage {
             At::Failed => behind_failed(&host.http, net.wishes.reselects),
             At::Connected => Stage::behind_connected(host.http.is_some(), net.loose.as_bytes()),
             At::Request => behind_request(link, host),
-            At::Response => behind_response(&host.http),
+            At::RequestData => behind_request_data(link, host),
+            At::Response | At::ResponseData => behind_response(&host.http),
             At::Leaving => Stage::left(link),
             At::ServerData => Stage::Relaying(Side::Client),
             At::ServerClosed | At::Closed => Stage::Draining,

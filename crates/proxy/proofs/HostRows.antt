@@ -32,10 +32,10 @@ record Rows : Type 0 where
   members : is_built false (call Named (codes "active_members")) ≡ true
   -- string p
   pure : is_built false (call Named (codes "string")) ≡ true
-  -- with HTTP its commands are there too, but those by which a body is gathered
+  -- with HTTP its commands are there too
   asked : is_built true (call Named (codes "HTTP::uri")) ≡ true
   chosen : is_built true (call Named (codes "pool")) ≡ true
-  gathered : is_built true (call Named (codes "HTTP::collect")) ≡ false
+  gathered : is_built true (call Named (codes "HTTP::collect")) ≡ true
   logged : is_built true (call Named (codes "log")) ≡ true
   -- afte\x72 p: a name with a backslash is a name when the command runs
   backslash : is_built false (call Computed (codes "after")) ≡ true

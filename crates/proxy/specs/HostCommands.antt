@@ -78,7 +78,7 @@ abbrev mutual
 unfoldable pub is_host_name : List ℕ → Bool
 is_host_name name = is_some (find (λ c. bytes_eq (command_row c).name name) every_command)
 
--- The commands that HTTP adds, but those by which a rule has a body gathered.
+-- The commands that HTTP adds.
 abbrev pub is_of_http : HostCommand → Bool
 is_of_http host.HttpUri = true
 is_of_http host.HttpPath = true
@@ -90,6 +90,8 @@ is_of_http host.HttpVersion = true
 is_of_http host.HttpHeader = true
 is_of_http host.HttpCookie = true
 is_of_http host.HttpStatus = true
+is_of_http host.HttpCollect = true
+is_of_http host.HttpPayload = true
 is_of_http host.HttpRelease = true
 is_of_http host.HttpClose = true
 is_of_http host.HttpRespond = true

@@ -29,7 +29,7 @@ fn command_of(name: &[u8]) -> Option<HostCommand>
     read_command(name)
 }
 
-// Whether HTTP adds the command, and by none of it a body is gathered.
+// Whether HTTP adds the command.
 fn is_of_http(command: HostCommand) -> bool
     ensures { result ≡ is_of_http command }
 {
@@ -44,6 +44,8 @@ fn is_of_http(command: HostCommand) -> bool
         | HostCommand::HttpHeader
         | HostCommand::HttpCookie
         | HostCommand::HttpStatus
+        | HostCommand::HttpCollect
+        | HostCommand::HttpPayload
         | HostCommand::HttpRelease
         | HostCommand::HttpClose
         | HostCommand::HttpRespond

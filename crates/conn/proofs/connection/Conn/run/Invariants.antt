@@ -8,7 +8,7 @@ invariant-loop-moved g l =
     RunsOn l.setup l.number l.initial.self l.self l.initial.notes.items l.notes.items l.spent
     × (l.given ≤ length l.notes.items)
     × (68 + l.given ≤ l.notes.spare + length l.notes.items)
-    × (l._moved + rank_of l.self + 15 * l.given ≤ 15 * (l.spent + length l.notes.items) + 14)
+    × (l._moved + rank_of l.self + 17 * l.given ≤ 17 * (l.spent + length l.notes.items) + 16)
     × (l.initial.steps + l.spent ≡ l.steps)
     × (l.spent ≤ 2000)
     × (length l.notes.items ≤ l.given + 64)
