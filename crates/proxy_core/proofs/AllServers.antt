@@ -1,8 +1,8 @@
 -- What all server connections were sent and never took, by number.
-use Rattle.std.proofs.Common.{◌≡◌, refl, sym, ap, ◌∙◌, ℕ, zero, suc, ◌+◌, ◌-◌, ◌≤◌, List, [], ◌∷◌, length, false, Option, Some, None, if◌then◌else◌, arith}
+use Rattle.std.proofs.Common.{◌≡◌, refl, ap, ℕ, zero, suc, ◌+◌, ◌≤◌, List, [], ◌∷◌, length, false, Option, Some, None, arith}
 use Rattle.conn_trace.specs.Heard.{SideHeard, has_made, servers_taken}
 use Rattle.conn_trace.specs.Item.{Item, server_output}
-use Rattle.proxy_core.specs.Scheduler.{last_took, servers_left}
+use Rattle.proxy_core.specs.Scheduler.{servers_left}
 use Rattle.proxy_core.specs.Servers.{made, took_behind}
 
 pub made_taken : (cs : List (Option SideHeard)) → length (servers_taken cs) ≡ made cs

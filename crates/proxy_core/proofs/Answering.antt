@@ -13,7 +13,7 @@ use Rattle.core_events.specs.declared.event_kind.EventKind.TheVariants.{Turns, R
 use Rattle.core_events.specs.declared.input.Input.{Input}
 use Rattle.core_events.specs.declared.input.Input.TheVariants.{Bytes, Ends, Resets, Connects, Takes}
 use Rattle.conn_trace.specs.Heard.{Heard, accepts, marks, event_marks, hears}
-use Rattle.conn_trace.specs.Item.{Item, notes_of}
+use Rattle.conn_trace.specs.Item.{Item}
 use Rattle.conn_trace.specs.Tellings.{own, replies_told, notes_about}
 use Rattle.core_events.specs.declared.edges.Edges.{Edges}
 use Rattle.core_events.specs.Edges.{edges_noted}
@@ -31,7 +31,7 @@ use Rattle.record_model.specs.Setup.{setup_of, stand_of}
 use Rattle.proxy_core.specs.declared.call.Asked.{Asked}
 use Rattle.run_config.specs.declared.config.Config.{Config}
 use Rattle.proxy_core.proofs.Besides.{replies_are}
-use Rattle.proxy_core.proofs.GroupNotes.{of_items, entries_items, entries_on, due_entries, closing_due, settling_due}
+use Rattle.proxy_core.proofs.GroupNotes.{entries_on, due_entries, closing_due, settling_due}
 use Rattle.proxy_core.proofs.RunOn.{told_due}
 use Rattle.conn.specs.Servers.{run_notes}
 use Rattle.conn_trace.specs.Gates.{Counts, TakenCounts}

@@ -1,5 +1,5 @@
 -- Behind every past few bytes of a connection lie unread, and few are pending to its sides.
-use Rattle.std.proofs.Common.{◌≡◌, ◌⊎◌, inl, inr, refl, sym, ap, subst, ◌∙◌, ℕ, ◌+◌, ◌-◌, ◌≤◌, List, [], ◌∷◌, ◌++◌, length, map, Bool, true, false, ◌&&◌, ◌||◌, not, true≢false, None, nat_eq, nat_lt, if◌then◌else◌, arith}
+use Rattle.std.proofs.Common.{◌≡◌, ◌⊎◌, inl, inr, refl, sym, ap, subst, ◌∙◌, ℕ, ◌+◌, ◌-◌, ◌≤◌, List, [], ◌∷◌, ◌++◌, length, map, Bool, true, false, ◌||◌, true≢false, None, nat_eq, nat_lt, if◌then◌else◌, arith}
 use Rattle.std.specs.Bool.{MatchBool}
 use Rattle.std.proofs.lemmas.Bool.Decides.{nat_tests}
 use Rattle.px_bytes.specs.declared.addr.Addr.{Addr}
@@ -21,11 +21,11 @@ use Rattle.conn_trace.specs.Heard.{Accepted, Heard, Brought, as_answer, brings_i
 use Rattle.conn_trace.specs.Heard.{brought_nothing, edges_met, event_brings, further_of, hears}
 use Rattle.conn_trace.specs.Heard.{marks, nothing_heard, start_of, taken}
 use Rattle.conn_trace.specs.HeardLaws.{TellsNothing, taken_by_items}
-use Rattle.conn_trace.specs.Item.{Item, cause_of, notes_of, reasons_in}
+use Rattle.conn_trace.specs.Item.{Item, cause_of, reasons_in}
 use Rattle.conn_trace.specs.Queries.{arriving, counted_held, unread_at, unread_limit}
 use Rattle.conn_trace.specs.Queries as query
 use Rattle.conn_trace.specs.Setup.{Setup}
-use Rattle.conn_trace.specs.State.{link_of, Absent, TraceState, no_answers, no_stream}
+use Rattle.conn_trace.specs.State.{TraceState, no_answers, no_stream}
 use Rattle.conn_trace.specs.Tellings.{choices_told, cut_told, finish_told, notes_about, replies_told, tells}
 use Rattle.conn_trace.specs.Trace.{Unfolds, next_item}
 use Rattle.core_events.specs.declared.note.Cause.{Cause}

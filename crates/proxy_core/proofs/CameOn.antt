@@ -1,5 +1,5 @@
 -- A connection of the code on which something came: what it goes on with, for what was heard then.
-use Rattle.std.proofs.Common.{◌≡◌, ◌⊎◌, inl, inr, refl, sym, ap, subst, ◌∙◌, ℕ, ◌+◌, ◌*◌, ◌-◌, ◌<◌, ◌≤◌, List, [], ◌∷◌, length, drop, append-nil, Bool, true, false, true≢false, ◌||◌, Option, Some, None, if◌then◌else◌, arith, length-append}
+use Rattle.std.proofs.Common.{◌≡◌, ◌⊎◌, inl, inr, refl, sym, ap, subst, ◌∙◌, ℕ, ◌*◌, ◌-◌, ◌≤◌, List, [], ◌∷◌, length, append-nil, Bool, true, false, true≢false, ◌||◌, Option, Some, None, if◌then◌else◌, arith, length-append}
 use Rattle.std.specs.Bool.{MatchBool}
 use Rattle.std.proofs.lemmas.List.{length-drop}
 use Rattle.px_bytes.specs.declared.addr.Side.TheVariants.{Client, Server}
@@ -9,7 +9,6 @@ use Rattle.core_events.specs.declared.note.Note.{Note}
 use Rattle.core_events.specs.declared.note.Note.TheVariants.{Finish}
 use Rattle.core_events.specs.Edges.{answered_edge, edge_ends, edge_resets, edges_noted}
 use Rattle.conn_trace.specs.Further.{longer, nothing_comes, nothing_further}
-use Rattle.conn_trace.specs.Gates.{no_bytes, sent_from}
 use Rattle.core_events.specs.declared.event_kind.EventKind.TheVariants.{Comes}
 use Rattle.core_events.specs.declared.input.Input.{Input}
 use Rattle.core_events.specs.declared.input.Input.TheVariants.{Bytes, Ends, Resets, Connects, Takes}
@@ -17,7 +16,7 @@ use Rattle.conn_trace.specs.Heard.{Heard, taken, edges_met, hears, taken_by, has
 use Rattle.conn_trace.specs.Heard.{further_of, start_of}
 use Rattle.conn_trace.specs.HeardLaws.{TellsNothing}
 use Rattle.conn_trace.specs.Costs.{paid_by}
-use Rattle.conn_trace.specs.Item.{Item, client_output, server_output}
+use Rattle.conn_trace.specs.Item.{Item, client_output}
 use Rattle.conn_trace.specs.Phases.{Orderly}
 use Rattle.conn_trace.specs.Setup.{Setup}
 use Rattle.conn_trace.specs.State.{Cut, TraceState, link_of}
@@ -56,7 +55,7 @@ use Rattle.proxy_core.proofs.Meeting.{TakesThere, met_at, around_last, around_me
 use Rattle.proxy_core.proofs.QueuesCame.{ComesThere, came_connects, connects_came, connects_last, queues_came}
 use Rattle.proxy_core.proofs.ServerCounts.{took_last}
 use Rattle.proxy_core.proofs.ServerLaws.{none_sent}
-use Rattle.proxy_core.proofs.Standing.{sent_at, stands_at}
+use Rattle.proxy_core.proofs.Standing.{stands_at}
 use Rattle.proxy_core.proofs.ServerLeft.{all_made}
 use Rattle.proxy_core.specs.Servers.{LateServer, Linked, has_server, made, serves_at}
 use Rattle.proxy_core.specs.Sound.{TookWithin}

@@ -19,7 +19,7 @@ use Rattle.conn_trace.specs.Further.{choosing, first_cut, longer}
 use Rattle.conn_trace.specs.Gates.{TakenCounts, Met}
 use Rattle.conn_trace.specs.Heard.{Heard, at_last, brought_nothing, edges_met, event_brings, event_marks, hears, hears_event, hears_more, taken}
 use Rattle.conn_trace.specs.HeardLaws.{TellsNothing, cut_in, taken_by_items}
-use Rattle.conn_trace.specs.Item.{Choice, Item, choices_in, notes_of}
+use Rattle.conn_trace.specs.Item.{Choice, Item, choices_in}
 use Rattle.conn_trace.specs.Setup.{Setup}
 use Rattle.conn_trace.specs.State.{Cut, TraceState, Next, Does, Waits, Over as IsOver, ForReply}
 use Rattle.px_bytes.specs.declared.fault.Reply.{Reply}

@@ -1,5 +1,5 @@
 -- Where a trace ends: once it has finished, or where everything was taken.
-use Rattle.std.proofs.Common.{◌≡◌, refl, sym, subst, ◌∙◌, ℕ, List, [], ◌∷◌, Bool, true, false, true≢false, Option, Some, None}
+use Rattle.std.proofs.Common.{◌≡◌, refl, sym, subst, ◌∙◌, ℕ, List, Bool, true, false, true≢false, Option, Some, None}
 use Rattle.std.specs.Prelude.{slice_get}
 use Rattle.px_bytes.specs.declared.addr.Side.TheVariants.{Client, Server}
 use Rattle.rule_model.specs.Outcome.{Act, Outcome, Ends, Waits as Stops}

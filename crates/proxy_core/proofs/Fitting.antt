@@ -21,7 +21,7 @@ use Rattle.core_events.specs.declared.event_kind.EventKind.TheVariants.{Turns, R
 use Rattle.core_events.specs.declared.input.Input.{Input}
 use Rattle.conn_trace.specs.Heard.{Heard, hears, edges_met, event_edges, taken}
 use Rattle.conn_trace.specs.HeardLaws.{taken_by_items}
-use Rattle.conn_trace.specs.Item.{Item, Passed, Fired, Reused, Connected, Logged, Finished, note_of, notes_of}
+use Rattle.conn_trace.specs.Item.{Item}
 use Rattle.conn_trace.specs.Phases.{Orderly}
 use Rattle.conn_trace.specs.Places.{is_up}
 use Rattle.conn_trace.specs.Queries.{half_close_due, relays_at}
@@ -50,10 +50,9 @@ use Rattle.proxy_core.specs.Sound.{is_closed, Served, Sound}
 use Rattle.proxy_core.specs.declared.call.Asked.{Asked as Call}
 use Rattle.run_config.specs.declared.config.Config.{Config}
 use Rattle.proxy_core.proofs.Drains.{longer_orderly}
-use Rattle.proxy_core.proofs.EdgeNotes.{edges_joined}
 use Rattle.proxy_core.proofs.Finished.{heard_finish, stands_orderly, trace_finished}
 use Rattle.proxy_core.proofs.Framing.{touches}
-use Rattle.proxy_core.proofs.GroupNotes.{About, about_items, about_joined, closing_due, due_about, of_items, own_all, own_none, settling_due}
+use Rattle.proxy_core.proofs.GroupNotes.{About, about_joined, closing_due, due_about, own_all, own_none, settling_due}
 use Rattle.proxy_core.proofs.Linking.{RunLinked, fit_joined, linked_now, linked_then, longer_linked, run_linked}
 use Rattle.proxy_core.proofs.Members.{eq_same, eq_self}
 use Rattle.proxy_core.proofs.RunNotes.{about_runs, of_runs, runs_client}

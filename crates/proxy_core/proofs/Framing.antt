@@ -13,7 +13,7 @@ use Rattle.conn_trace.specs.HeardLaws.{concerns}
 use Rattle.px_bytes.specs.declared.fault.Reply.{Reply}
 use Rattle.shared_store.specs.Store.{StoreState}
 use Rattle.shared_store.specs.Calls.{reply}
-use Rattle.conn_trace.specs.Item.{Item, notes_of}
+use Rattle.conn_trace.specs.Item.{Item}
 use Rattle.conn_trace.specs.Tellings.{tells, conn_of}
 use Rattle.conn_trace.proofs.Hearing.{others_not_heard}
 use Rattle.proxy_core.specs.Calls.{calls_of, is_any, asker, queue_behind}
@@ -34,7 +34,7 @@ use Rattle.conn.specs.declared.turn.ConnTurn.{ConnTurn}
 use Rattle.proxy_core.specs.Scheduler.{State, entries, Seen, seen, seen_after, untaken_all}
 use Rattle.run_config.specs.declared.config.Config.{Config}
 use Rattle.proxy_core.proofs.Entries.{entries_behind, entries_pushed, entries_rest, entries_without, entries_ready, entries_woken, calls_behind, calls_rest, calls_without}
-use Rattle.proxy_core.proofs.GroupNotes.{About, about_joined, about_items, closing_due, due_about, of_items, own_none, resting_due, settling_due}
+use Rattle.proxy_core.proofs.GroupNotes.{About, about_joined, closing_due, due_about, own_none, resting_due, settling_due}
 use Rattle.record_model.specs.Setup.{setup_of, stand_of}
 use Rattle.conn.specs.Settling.{is_over, took_all}
 use Rattle.conn_trace.specs.Trace.{next_item}

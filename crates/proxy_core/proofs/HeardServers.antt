@@ -7,7 +7,7 @@ use Rattle.core_events.specs.declared.event_kind.EventKind.TheVariants.{Accepts,
 use Rattle.core_events.specs.declared.event_kind.EventKind.TheVariants.{Turns, Runs, Marks}
 use Rattle.core_events.specs.declared.input.Input.{Input}
 use Rattle.core_events.specs.declared.input.Input.TheVariants.{Bytes, Ends, Resets, Connects, Takes}
-use Rattle.conn_trace.specs.Heard.{SideHeard, Heard, hears_more, at_last, unless_late, Brought, brought_nothing}
+use Rattle.conn_trace.specs.Heard.{SideHeard, Heard, hears_more, at_last, unless_late, brought_nothing}
 use Rattle.conn_trace.specs.Heard.{brings_in, event_brings, accepts, marks, event_marks, brought}
 use Rattle.conn_trace.specs.Heard.{hears}
 use Rattle.conn_trace.specs.Tellings.{notes_about, finish_told}

@@ -1,5 +1,5 @@
 -- All server connections of a connection are heard of, but one that was made behind its finish.
-use Rattle.std.proofs.Common.{◌≡◌, refl, sym, ap, subst, ◌∙◌, ℕ, ◌+◌, List, [], ◌∷◌, Bool, true, false, ◌||◌, None, nat_eq, if◌then◌else◌, arith}
+use Rattle.std.proofs.Common.{◌≡◌, refl, sym, ap, subst, ℕ, ◌+◌, [], ◌∷◌, Bool, true, false, ◌||◌, None, nat_eq, if◌then◌else◌, arith}
 use Rattle.std.specs.Prelude.{is_some}
 use Rattle.core_events.specs.declared.event_kind.EventKind.{EventKind}
 use Rattle.core_events.specs.declared.event_kind.EventKind.TheVariants.{Accepts, Comes, Ticks}
@@ -9,7 +9,7 @@ use Rattle.core_events.specs.Edges.{is_connecting}
 use Rattle.core_events.specs.Kinds.{kind_of}
 use Rattle.conn_trace.specs.Heard.{Heard, brought_nothing, event_brings, event_late, hears}
 use Rattle.conn_trace.specs.Tellings.{finish_told, notes_about}
-use Rattle.record_model.specs.Past.{Happened, Past, heard}
+use Rattle.record_model.specs.Past.{Past, heard}
 use Rattle.record_model.specs.Setup.{stand_of}
 use Rattle.run_config.specs.declared.config.Config.{Config}
 use Rattle.proxy_core.specs.Moves.{Leads}

@@ -1,5 +1,5 @@
 -- A server connection that is asked for, or is made behind the finish: the trace has none then, along items and where more comes.
-use Rattle.std.proofs.Common.{◌≡◌, refl, sym, ap, subst, ◌∙◌, ℕ, ◌≤◌, List, [], ◌∷◌, ◌++◌, append-nil, length, map, Bool, true, false, true≢false, ◌||◌, Option, Some, None, is_some, nat_eq, if◌then◌else◌}
+use Rattle.std.proofs.Common.{◌≡◌, refl, sym, ap, subst, ◌∙◌, ℕ, ◌≤◌, List, [], ◌∷◌, ◌++◌, append-nil, length, Bool, true, false, true≢false, ◌||◌, Option, Some, None, is_some, if◌then◌else◌}
 use Rattle.px_bytes.specs.declared.addr.Addr.{Addr}
 use Rattle.px_bytes.specs.declared.addr.Side.TheVariants.{Client, Server}
 use Rattle.core_events.specs.declared.edges.Edges.{Edges}
@@ -10,7 +10,7 @@ use Rattle.core_events.specs.declared.input.Input.TheVariants.{Bytes, Ends, Rese
 use Rattle.core_events.specs.declared.note.Note.{Note}
 use Rattle.core_events.specs.declared.note.Note.TheVariants.{CloseServer}
 use Rattle.core_events.specs.Edges.{answered_edge, edges_noted, is_connecting}
-use Rattle.conn_trace.specs.Further.{Coming, Further, longer, nothing_further, on_last}
+use Rattle.conn_trace.specs.Further.{Coming, Further, longer, on_last}
 use Rattle.conn_trace.specs.Gates.{Counts, Met, TakenCounts, sent_after}
 use Rattle.conn_trace.specs.Heard.{Heard, edges_met, hears, late_by}
 use Rattle.conn_trace.specs.Item.{Item, Answered, Connected, Passed, Retires}

@@ -1,7 +1,6 @@
 -- A cut that was heard was allowed: behind each event what was told still allows it.
 use Rattle.std.proofs.Common.{◌≡◌, inl, inr, refl, sym, ap, ◌∙◌, ℕ, ◌+◌, List, [], ◌∷◌, ◌++◌, append-nil, Bool, true, false, ◌||◌, if◌then◌else◌, Option, Some, None, is_none, zero-add}
 use Rattle.px_bytes.specs.declared.addr.Side.TheVariants.{Client, Server}
-use Rattle.core_events.specs.declared.edges.Edges.{Edges}
 use Rattle.core_events.specs.declared.note.CutReason.{CutReason}
 use Rattle.core_events.specs.declared.note.CutReason.TheVariants.{ClientReset, ServerReset, Idle}
 use Rattle.core_events.specs.declared.note.Note.{Note}
@@ -16,7 +15,7 @@ use Rattle.conn_trace.specs.Heard.{hears_by, hears_more, at_last, unless_late, b
 use Rattle.conn_trace.specs.Heard.{brought, hear_brought, marks, event_marks, hears_event, hears}
 use Rattle.conn_trace.specs.Heard.{start_of}
 use Rattle.conn_trace.specs.HeardLaws.{cut_for, cut_in, TellsNothing}
-use Rattle.conn_trace.specs.Item.{Item, Reason, Closed, Tcl, Http, Unselected, Rejected, CutBy, choices_in, notes_of, shown}
+use Rattle.conn_trace.specs.Item.{Item, Reason, Closed, Tcl, Http, Unselected, Rejected, CutBy, choices_in, shown}
 use Rattle.conn_trace.specs.Setup.{Setup}
 use Rattle.conn_trace.specs.State.{Cut, TraceState, link_of}
 use Rattle.conn_trace.specs.Tellings.{notes_about, cut_told, finish_told}

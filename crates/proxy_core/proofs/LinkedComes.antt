@@ -1,5 +1,5 @@
 -- Where the server's end stands behind something that comes of its connection, and behind notes that are due.
-use Rattle.std.proofs.Common.{◌≡◌, refl, sym, ap, subst, ◌∙◌, ℕ, zero, ◌+◌, ◌≤◌, List, [], ◌∷◌, Bool, true, false, ◌||◌, ◌&&◌, not, nat_eq, true≢false, arith, eqb-true, eq-eqb}
+use Rattle.std.proofs.Common.{◌≡◌, refl, sym, ap, subst, ◌∙◌, ℕ, ◌+◌, List, [], ◌∷◌, Bool, true, false, ◌||◌, ◌&&◌, not, nat_eq, true≢false, arith, eqb-true, eq-eqb}
 use Rattle.std.specs.Bool.{MatchBool}
 use Rattle.std.specs.List.{list_any}
 use Rattle.px_bytes.specs.declared.addr.Side.TheVariants.{Client, Server}
@@ -19,11 +19,11 @@ use Rattle.conn.specs.Calls.{unless_finished}
 use Rattle.conn.specs.Settling.{close_notes, closing, is_given_up, is_there, note_if, server_notes, took_all}
 use Rattle.proxy_core.specs.Live.{further_in}
 use Rattle.record_model.specs.Refusal.{answers_nothing}
-use Rattle.proxy_core.specs.Servers.{AskedAt, awaits, closed_servers, draining, draining_by, is_serving, Linked, LinkedAt, LinkedBy}
+use Rattle.proxy_core.specs.Servers.{awaits, closed_servers, draining, draining_by, is_serving, Linked, LinkedAt}
 use Rattle.proxy_core.specs.Shown.{closes, shows}
 use Rattle.proxy_core.proofs.Closings.{any_on, shut}
 use Rattle.proxy_core.proofs.GroupNotes.{AreDue}
-use Rattle.proxy_core.proofs.Linking.{answered_linked, as_true, asked, asked_then, few_wait, is_asked, linked_now, linked_over, linked_then, longer_linked, none_drains, none_waits, settled}
+use Rattle.proxy_core.proofs.Linking.{answered_linked, as_true, asked, asked_then, few_wait, is_asked, linked_over, linked_then, longer_linked, none_drains, none_waits, settled}
 use Rattle.proxy_core.proofs.ServerGone.{never}
 
 pub was_true : (b : Bool) → not b ≡ false → b ≡ true

@@ -1,5 +1,5 @@
 -- Where the server's end stands: along items and their notes, which fit it, and where more comes.
-use Rattle.std.proofs.Common.{◌≡◌, refl, sym, ap, subst, ◌∙◌, ℕ, suc, ◌+◌, ◌≤◌, List, [], ◌∷◌, ◌++◌, append-nil, length, map, Bool, true, false, true≢false, Option, Some, None, is_some, nat_eq, arith, eqb-true, ◌⊎◌, inl, inr, append_assoc}
+use Rattle.std.proofs.Common.{◌≡◌, refl, sym, ap, subst, ◌∙◌, ℕ, suc, ◌+◌, ◌≤◌, List, [], ◌∷◌, ◌++◌, append-nil, length, map, Bool, true, false, true≢false, Option, Some, None, is_some, nat_eq, arith, eqb-true, inl, inr, append_assoc}
 use Rattle.std.specs.Bool.{MatchBool}
 use Rattle.px_bytes.specs.declared.addr.Side.TheVariants.{Server}
 use Rattle.core_events.specs.declared.edges.Edges.{Edges}
@@ -20,7 +20,7 @@ use Rattle.conn_trace.specs.Trace.{Unfolds}
 use Rattle.conn_trace.proofs.Given.{sent_step}
 use Rattle.conn_trace.proofs.Stepping.{steps}
 use Rattle.conn_trace.proofs.Streams.{link_same}
-use Rattle.conn.specs.Servers.{closed_behind, run_notes, sending_bytes, to_servers}
+use Rattle.conn.specs.Servers.{closed_behind, run_notes, sending_bytes}
 use Rattle.conn.specs.Settling.{is_given_up, note_if}
 use Rattle.proxy_core.specs.Fitting.{Fit}
 use Rattle.proxy_core.specs.Sound.{is_closed}
@@ -28,7 +28,7 @@ use Rattle.proxy_core.specs.Servers.{is_free, is_serving, awaits, AskedAt, Linke
 use Rattle.proxy_core.proofs.EdgeNotes.{edges_joined}
 use Rattle.proxy_core.proofs.ServerGone.{never}
 use Rattle.proxy_core.proofs.ServerLaws.{Ordered, ordered_step, side_of, went_on}
-use Rattle.proxy_core.proofs.ServerPhases.{Asking, Giving, Quiet, Taking, link_by, SideBy}
+use Rattle.proxy_core.proofs.ServerPhases.{Giving, Quiet, Taking, link_by, SideBy}
 use Rattle.proxy_core.proofs.ServerSends.{SendsUp}
 
 -- by a test whose result is known

@@ -1,6 +1,5 @@
 -- What something that comes of a connection makes of what was told of it from outside.
 use Rattle.std.proofs.Common.{◌≡◌, refl, sym, ap, ◌∙◌, ℕ, ◌+◌, List, [], ◌∷◌, ◌++◌, append-nil, map, drop, Bool, true, false, ◌||◌, Option, Some, None, option_map, if◌then◌else◌, arith}
-use Rattle.std.proofs.lemmas.List.{drop-drop}
 use Rattle.px_bytes.specs.declared.addr.Side.TheVariants.{Client, Server}
 use Rattle.px_bytes.specs.declared.fault.Reply.{Reply}
 use Rattle.conn_trace.specs.Further.{Coming, Further, nothing_comes, nothing_further}
@@ -14,7 +13,7 @@ use Rattle.conn_trace.specs.Heard.{answer, as_answer, Brought, brought_nothing, 
 use Rattle.conn_trace.specs.Heard.{event_brings, marks, event_marks, brought, hears_event, hears}
 use Rattle.conn_trace.specs.Heard.{further_of}
 use Rattle.conn_trace.specs.HeardLaws.{TellsNothing}
-use Rattle.conn_trace.specs.Item.{Choice, Item, client_output, server_output}
+use Rattle.conn_trace.specs.Item.{Choice}
 use Rattle.conn_trace.specs.State.{Cut}
 use Rattle.conn_trace.specs.Tellings.{notes_about, replies_told, choices_told, cut_told, finish_told, failure_told}
 use Rattle.core_events.specs.declared.note.Note.{Note}
@@ -24,7 +23,7 @@ use Rattle.conn.specs.Holds.{Around}
 use Rattle.conn.specs.declared.ends.End.{End}
 use Rattle.conn.specs.declared.ends.Ends.{Ends as BothEnds}
 use Rattle.proxy_core.specs.Live.{ends_met, further_in, met_by}
-use Rattle.proxy_core.specs.Represents.{HoldsQueues, around}
+use Rattle.proxy_core.specs.Represents.{around}
 use Rattle.proxy_core.specs.Scheduler.{last_took}
 use Rattle.proxy_core.proofs.Members.{eq_self}
 

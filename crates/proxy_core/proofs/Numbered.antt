@@ -1,12 +1,11 @@
 -- Behind every past nothing was sent to a server connection that wasn't heard of, and what one took is within what was sent to it.
-use Rattle.std.proofs.Common.{◌≡◌, refl, sym, ap, subst, ◌∙◌, ℕ, zero, suc, ◌+◌, ◌<◌, ◌≤◌, List, [], length, Bool, true, false, arith}
+use Rattle.std.proofs.Common.{◌≡◌, refl, sym, subst, ℕ, zero, suc, ◌<◌, ◌≤◌, [], length, Bool, true, false, arith}
 use Rattle.std.specs.Prelude.{is_some}
 use Rattle.conn_trace.specs.Heard.{start_of}
 use Rattle.conn_trace.specs.Item.{server_output}
-use Rattle.proxy_core.specs.Numbered.{Numbered, ServersAreNumbered}
-use Rattle.record_model.specs.Past.{Past, heard}
+use Rattle.proxy_core.specs.Numbered.{ServersAreNumbered}
 use Rattle.record_model.specs.Setup.{setup_of, stand_of}
-use Rattle.proxy_core.specs.Scheduler.{State, Seen, seen}
+use Rattle.proxy_core.specs.Scheduler.{Seen, seen}
 use Rattle.proxy_core.specs.Servers.{made, took_of}
 use Rattle.proxy_core.specs.Sound.{Served, SoundAt, unseen}
 use Rattle.run_config.specs.declared.config.Config.{Config}

@@ -1,5 +1,5 @@
 -- Parts of the promise, of a connection of which `Served` holds.
-use Rattle.std.proofs.Common.{◌≡◌, refl, sym, ap, subst, ◌∙◌, ℕ, ◌+◌, ◌≤◌, List, [], ◌∷◌, ◌++◌, length, take, map, Bool, true, false, ◌&&◌, ◌||◌, true≢false, not, nat_eq, arith, eqb-true, append-nil, if◌then◌else◌, is_none, zero-add, ◌-◌}
+use Rattle.std.proofs.Common.{◌≡◌, refl, sym, ap, subst, ◌∙◌, ℕ, ◌+◌, ◌≤◌, List, [], ◌∷◌, ◌++◌, length, take, map, Bool, true, false, ◌&&◌, ◌||◌, true≢false, not, nat_eq, arith, eqb-true, append-nil, is_none, zero-add, ◌-◌}
 use Rattle.std.proofs.lemmas.Bool.{and_parts}
 use Rattle.std.proofs.lemmas.List.{take-append-le}
 use Rattle.std.proofs.lemmas.Grind.{flat_map-append}
@@ -13,7 +13,7 @@ use Rattle.conn_trace.specs.Further.{is_some_of}
 use Rattle.conn_trace.specs.Gates.{Counts, TakenCounts, no_bytes, to_take, untaken}
 use Rattle.conn_trace.specs.Heard.{Heard, taken, taken_by}
 use Rattle.conn_trace.specs.Item.{Item, Reason, cause_of, to_client, to_server, client_output, server_output, notes_of, reasons_in}
-use Rattle.conn_trace.specs.Laws.{Stops, cut_is_taken, takes_cut}
+use Rattle.conn_trace.specs.Laws.{Stops, cut_is_taken}
 use Rattle.conn_trace.specs.Setup.{Setup}
 use Rattle.conn_trace.specs.State.{TraceState, Next, Does, Waits, Over, link_of}
 use Rattle.conn_trace.specs.Trace.{next_item, trace, GivesNoMore}

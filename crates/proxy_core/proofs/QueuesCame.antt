@@ -6,22 +6,18 @@ use Rattle.core_events.specs.declared.input.Input.{Input}
 use Rattle.core_events.specs.declared.input.Input.TheVariants.{Bytes, Ends, Resets, Connects, Takes}
 use Rattle.core_events.specs.declared.note.Note.{Note}
 use Rattle.conn_trace.specs.Further.{Coming}
-use Rattle.conn_trace.specs.Heard.{Brought, Heard, brought, SideHeard, answer, at_last, unless_late, brings_in, brought_nothing, event_brings, event_marks, fresh_side, has_made, hears, hears_more, marks}
+use Rattle.conn_trace.specs.Heard.{Brought, Heard, brought, SideHeard, at_last, unless_late, brings_in, brought_nothing, event_brings, event_marks, fresh_side, has_made, hears, hears_more, marks}
 use Rattle.core_events.specs.declared.event_kind.EventKind.TheVariants.{Comes}
 use Rattle.conn_trace.specs.Item.{Item, client_output, server_output}
-use Rattle.conn_trace.specs.State.{TraceState}
 use Rattle.conn_trace.specs.Tellings.{finish_told, notes_about}
 use Rattle.conn.specs.Ends.{has_stream, heard_end}
-use Rattle.conn.specs.Holds.{HoldsEnds}
 use Rattle.conn.specs.declared.ends.Ends.{Ends as BothEnds}
-use Rattle.conn.specs.declared.ends.Link.{Link}
-use Rattle.conn.specs.declared.ends.Link.TheVariants as link
-use Rattle.proxy_core.specs.Live.{ends_met, met_by}
+use Rattle.proxy_core.specs.Live.{ends_met}
 use Rattle.proxy_core.specs.Represents.{HoldsQueues, around}
 use Rattle.proxy_core.specs.Scheduler.{last_took, servers_left}
 use Rattle.proxy_core.specs.Servers.{made}
 use Rattle.proxy_core.proofs.HeardServers.{joined_made, last_made}
-use Rattle.proxy_core.proofs.Meeting.{brought_is, client_counted, client_queued, ends_lost, heard_connects, hears_took, last_keeps, last_more, made_last, marked_is, none_took, server_queued, took_answered, took_client, took_refused, took_server, met_at}
+use Rattle.proxy_core.proofs.Meeting.{brought_is, client_counted, client_queued, ends_lost, heard_connects, hears_took, last_keeps, last_more, marked_is, server_queued, took_client, took_refused, took_server, met_at}
 use Rattle.proxy_core.proofs.ServerCounts.{none_made}
 
 -- ---- what is left

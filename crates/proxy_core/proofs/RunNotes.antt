@@ -1,19 +1,15 @@
 -- The notes of a Run: those of its items, with the closings of server connections that were given up, and what they tell.
 use Rattle.std.proofs.Common.{◌≡◌, refl, sym, ap, ◌∙◌, ℕ, List, [], ◌∷◌, ◌++◌, append_assoc, map, Bool, true, false, ◌||◌, true≢false, if◌then◌else◌, Option, Some, None, nat_eq}
 use Rattle.std.specs.List.{filter, list_any}
-use Rattle.std.proofs.lemmas.Grind.{flat_map-append}
 use Rattle.px_bytes.specs.declared.addr.Side.TheVariants.{Client, Server}
-use Rattle.px_bytes.specs.declared.fault.Reply.{Reply}
 use Rattle.core_events.specs.declared.edges.Edges.{Edges}
-use Rattle.core_events.specs.declared.note.Cause.{Cause}
 use Rattle.core_events.specs.declared.note.Note.{Note}
 use Rattle.core_events.specs.declared.note.Note.TheVariants as note
 use Rattle.core_events.specs.Edges.{edges_by, edges_noted}
 use Rattle.conn_trace.specs.Further.{is_some_of}
 use Rattle.conn_trace.specs.Gates.{Counts, TakenCounts, sent_after}
 use Rattle.conn_trace.specs.HeardLaws.{cut_in}
-use Rattle.conn_trace.specs.Item.{Choice, Item, cause_of, choices_in, listed, note_of, noted, notes_of, reasons_in, shown, Retires}
-use Rattle.conn_trace.specs.State.{Cut}
+use Rattle.conn_trace.specs.Item.{Item, cause_of, choices_in, listed, note_of, noted, notes_of, reasons_in, shown, Retires}
 use Rattle.conn_trace.specs.Tellings.{NoteTells, conn_of, choices_told, cut_by, cut_told, failure_told, finish_told, notes_about, own, replies_told, tells}
 use Rattle.conn_trace.proofs.Telling.{run_tells}
 use Rattle.conn.specs.Servers.{closed_behind, run_notes}
@@ -22,7 +18,7 @@ use Rattle.record_model.specs.History.{entries_in, entry_in}
 use Rattle.record_model.specs.Past.{ended_in}
 use Rattle.proxy_core.specs.Shown.{causes_told, closes, closes_for_good, ends_it, shows}
 use Rattle.proxy_core.specs.Sound.{is_closed}
-use Rattle.proxy_core.proofs.GroupNotes.{About, OfItem, OfItems, entries_on, of_items}
+use Rattle.proxy_core.proofs.GroupNotes.{About, OfItem, OfItems, of_items}
 use Rattle.proxy_core.proofs.Members.{eq_self}
 use Rattle.proxy_core.proofs.Sums.{causes_of_items, causes_on, shown_items, shown_on}
 

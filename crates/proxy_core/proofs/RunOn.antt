@@ -12,18 +12,17 @@ use Rattle.core_events.specs.Edges.{edges_noted}
 use Rattle.conn_trace.specs.Further.{longer, nothing_comes, on_last}
 use Rattle.conn_trace.specs.Gates.{Counts, TakenCounts, no_bytes, sent_after, sent_from}
 use Rattle.core_events.specs.declared.event_kind.EventKind.TheVariants.{Runs}
-use Rattle.conn_trace.specs.Heard.{Heard, taken, hears, start_of, SideHeard, has_made, servers_taken}
+use Rattle.conn_trace.specs.Heard.{Heard, taken, hears, start_of}
 use Rattle.conn_trace.specs.HeardLaws.{TellsNothing, taken_by_items}
 use Rattle.conn_trace.specs.Costs.{paid_by}
-use Rattle.conn_trace.specs.Item.{Item, to_client, to_server, client_output, server_output, notes_of}
+use Rattle.conn_trace.specs.Item.{Item, to_client, client_output, server_output}
 use Rattle.conn_trace.specs.Setup.{Setup}
 use Rattle.conn_trace.specs.State.{TraceState, link_of}
 use Rattle.conn_trace.specs.Tellings.{notes_about, failure_told}
 use Rattle.conn_trace.specs.Trace.{Unfolds}
 use Rattle.conn_trace.proofs.Costs.{paid_joins}
-use Rattle.conn_trace.proofs.Given.{sent_counted, sent_output}
-use Rattle.conn_trace.proofs.Sending.{sent_to_server}
-use Rattle.conn.specs.Ends.{connects_by, has_stream, queued_in, server_by}
+use Rattle.conn_trace.proofs.Given.{sent_output}
+use Rattle.conn.specs.Ends.{queued_in}
 use Rattle.conn.specs.Holds.{Around, Holds, HoldsEnds}
 use Rattle.conn.specs.Paid.{Paid}
 use Rattle.conn.specs.Runs.{GoesOnWith, IsWhole, StopsWithout}
@@ -32,8 +31,6 @@ use Rattle.conn.specs.Settling.{closing, resting}
 use Rattle.conn.specs.Setups as conn
 use Rattle.conn.specs.declared.connection.Conn.{Conn}
 use Rattle.conn.specs.declared.ends.Ends.{Ends}
-use Rattle.conn.specs.declared.ends.Link.{Link}
-use Rattle.conn.specs.declared.ends.Link.TheVariants as link
 use Rattle.conn.specs.declared.setup.Setup as given
 use Rattle.conn.specs.declared.turn.ConnTurn.{ConnTurn}
 use Rattle.conn.specs.declared.turn.ConnTurn.TheVariants as turn
@@ -50,7 +47,7 @@ use Rattle.conn.proofs.Affording.{affords}
 use Rattle.conn.proofs.Paying.{paid_within}
 use Rattle.proxy_core.proofs.CameOn.{Stood, stream_is, paid_standing, queued_untaken, to_standing}
 use Rattle.proxy_core.proofs.Entries.{asked_behind, calls_behind_self}
-use Rattle.proxy_core.proofs.GroupNotes.{About, AreDue, about_items, about_joined, closing_due, due_about, due_failure, due_quiet, ended_behind, ended_closing, ended_resting, failure_behind, of_items, resting_due, tells_all}
+use Rattle.proxy_core.proofs.GroupNotes.{About, AreDue, about_joined, closing_due, due_about, due_failure, due_quiet, ended_closing, ended_resting, resting_due, tells_all}
 use Rattle.proxy_core.proofs.Meeting.{around_quiet}
 use Rattle.proxy_core.proofs.Members.{eq_self}
 use Rattle.proxy_core.proofs.Standing.{sent_at}

@@ -5,7 +5,7 @@ use Rattle.px_bytes.specs.declared.addr.Side.TheVariants.{Client, Server}
 use Rattle.px_bytes.specs.declared.fault.FaultKind.{FaultKind}
 use Rattle.px_bytes.specs.declared.fault.TclFault.{TclFault}
 use Rattle.event_order.specs.declared.event.EventName.{EventName}
-use Rattle.event_order.specs.declared.event.EventName.TheVariants.{ClientAccepted, ClientData, ClientClosed, ServerConnected, ServerData, ServerClosed, LbSelected, LbFailed, HttpRequest, HttpRequestData, HttpResponse, HttpResponseData}
+use Rattle.event_order.specs.declared.event.EventName.TheVariants.{ClientAccepted, ClientData, ClientClosed, ServerConnected, ServerClosed, LbSelected, LbFailed, HttpRequest, HttpRequestData, HttpResponse, HttpResponseData}
 use Rattle.irule_net.specs.declared.state.Asks.{Asks}
 use Rattle.irule_net.specs.declared.state.Asks.TheVariants.{NotAsked, Stated}
 use Rattle.irule_net.specs.declared.state.Ending.{Ending}
@@ -20,7 +20,7 @@ use Rattle.conn_trace.specs.Phases.{is_leaving}
 use Rattle.conn_trace.specs.Places.{Place, place, is_closing, is_up, begun, bodies_left, closed_client, closed, connecting, behind_data, giving_up, goes_on, unless_ended, after_event, after_fault, after_body, entered, enter, next_body}
 use Rattle.conn_trace.specs.Routing.{behind_accept, behind_accepted, behind_answer, behind_asked, behind_connect, behind_connected, behind_failed, behind_message, behind_request, behind_request_data, behind_response, behind_retired, behind_told, gathering, is_left, is_spent_link, next_request, routed}
 use Rattle.conn_trace.specs.Setup.{Handler, Setup}
-use Rattle.conn_trace.specs.State.{Bodies, Phase, Behind, BeforeSelect, BehindMessage, AtHead, AtReuse, GivingUp, Retiring, Heading, Forwarding, AtResponse, InEvent, Choosing, Answering, Collecting, Finishing, Draining, Link, Absent, Asked, Up, Left, GivenUp}
+use Rattle.conn_trace.specs.State.{Phase, Behind, BeforeSelect, BehindMessage, AtHead, AtReuse, GivingUp, Retiring, Heading, InEvent, Choosing, Answering, Collecting, Finishing, Draining, Link, Absent, Asked, Up, Left, GivenUp}
 use Rattle.proxy_core.specs.Servers.{awaits}
 
 pub never : {A : Type 0} → false ≡ true → A

@@ -1,5 +1,5 @@
 -- The server connections along items: the made ones are those that were answered and those that wait; a server is asked for where the one before took all; those before the present one took all; and to a later one nothing was sent.
-use Rattle.std.proofs.Common.{◌≡◌, ◌⊎◌, inl, inr, refl, sym, ap, subst, ◌∙◌, ℕ, zero, suc, ◌+◌, ◌-◌, ◌<◌, ◌≤◌, List, [], ◌∷◌, ◌++◌, length, length-append, append-nil, Bool, true, false, ◌||◌, not, true≢false, if◌then◌else◌, Option, Some, None, is_some, arith, eqb-true, eq-eqb, ne_eqb, append_assoc}
+use Rattle.std.proofs.Common.{◌≡◌, ◌⊎◌, inl, inr, refl, sym, ap, subst, ◌∙◌, ℕ, zero, suc, ◌+◌, ◌<◌, ◌≤◌, List, [], ◌∷◌, ◌++◌, length, length-append, append-nil, Bool, true, false, ◌||◌, not, true≢false, if◌then◌else◌, Option, Some, None, is_some, arith, eqb-true, eq-eqb, ne_eqb, append_assoc}
 use Rattle.px_bytes.specs.declared.addr.Side.TheVariants.{Server}
 use Rattle.event_order.specs.declared.event.EventName.TheVariants.{ClientAccepted}
 use Rattle.conn_trace.specs.Further.{Further, longer}
@@ -8,7 +8,7 @@ use Rattle.conn_trace.specs.Host.{first_host}
 use Rattle.conn_trace.specs.Item.{Item, Answered, Connected, CutBy, Peer, Retires, ToClient, ToServer, Sending, shown, bytes_to_server, server_part, server_output, to_server}
 use Rattle.conn_trace.specs.Phases.{finishes, is_leaving, Orderly, Steps}
 use Rattle.conn_trace.specs.Setup.{Setup}
-use Rattle.conn_trace.specs.State.{Absent, Answers, link_of, Cut, Stream, TraceState, Next, Does, Waits, Over}
+use Rattle.conn_trace.specs.State.{Absent, Answers, Cut, Stream, TraceState, Next, Does, Waits, Over}
 use Rattle.conn_trace.specs.Places.{finish, is_up}
 use Rattle.conn_trace.specs.Trace.{uncut, phase_next, cut_takes, cut_open, cut_next, counted, next_item, Unfolds, start}
 use Rattle.conn_trace.proofs.Fair.{PeerIs, SendsTo, FairNext, phase_fair}

@@ -1,16 +1,16 @@
 -- What the server connections of one connection took and what is left to them, by number, and what was heard of the last.
-use Rattle.std.proofs.Common.{◌≡◌, ◌⊎◌, inl, inr, refl, sym, ap, subst, ◌∙◌, ℕ, zero, suc, ◌+◌, ◌-◌, ◌<◌, ◌≤◌, List, [], ◌∷◌, ◌++◌, append-nil, length, Bool, true, false, ◌&&◌, true≢false, if◌then◌else◌, Option, Some, None, is_none, arith, zero-add}
+use Rattle.std.proofs.Common.{◌≡◌, refl, sym, ap, subst, ◌∙◌, ℕ, zero, suc, ◌+◌, ◌-◌, ◌<◌, ◌≤◌, List, [], ◌∷◌, length, Bool, true, false, ◌&&◌, true≢false, if◌then◌else◌, Option, Some, None, is_none, arith, zero-add}
 use Rattle.std.specs.Prelude.{slice_get, unwrap_or, nat_lt}
 use Rattle.std.proofs.lemmas.Bool.Decides.{nat_tests}
-use Rattle.px_bytes.specs.declared.addr.Side.TheVariants.{Client, Server}
+use Rattle.px_bytes.specs.declared.addr.Side.TheVariants.{Server}
 use Rattle.core_events.specs.declared.note.CutReason.TheVariants.{ServerReset}
 use Rattle.conn_trace.specs.Gates.{no_bytes, sent_from, taken_of, to_take, untaken}
-use Rattle.conn_trace.specs.Heard.{Heard, SideHeard, taken, taken_by, servers_taken, as_answer, start_of}
+use Rattle.conn_trace.specs.Heard.{Heard, SideHeard, taken, taken_by, servers_taken, start_of}
 use Rattle.conn_trace.specs.Item.{Item, server_output}
 use Rattle.conn_trace.specs.Places.{is_up}
 use Rattle.conn_trace.specs.Queries.{is_reset}
 use Rattle.conn_trace.specs.Setup.{Setup}
-use Rattle.conn_trace.specs.State.{Asked, Stream, TraceState, link_of}
+use Rattle.conn_trace.specs.State.{Stream, TraceState, link_of}
 use Rattle.conn_trace.specs.Trace.{Unfolds}
 use Rattle.conn.specs.RunsItems.{licenses as licensed_at}
 use Rattle.proxy_core.specs.Scheduler.{Seen, last_took, untaken_of, servers_left}

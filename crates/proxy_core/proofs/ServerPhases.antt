@@ -1,10 +1,9 @@
 -- What the item of each phase does to the server's side of a trace: who is asked for a connection, which answer is taken, which one is given up, and that all other items leave it.
-use Rattle.std.proofs.Common.{◌≡◌, ◌⊎◌, inl, inr, refl, sym, ap, subst, ◌∙◌, ℕ, zero, suc, ◌+◌, List, [], ◌∷◌, Bool, true, false, true≢false, if◌then◌else◌, Option, Some, None, is_some, Result, Ok, Err}
+use Rattle.std.proofs.Common.{◌≡◌, inl, inr, refl, sym, ap, subst, ◌∙◌, ℕ, zero, suc, ◌+◌, List, [], ◌∷◌, Bool, true, false, true≢false, Option, Some, None, is_some, Result, Ok, Err}
 use Rattle.std.specs.Prelude.{slice_get, take, nat_eq}
 use Rattle.px_bytes.specs.declared.addr.Addr.{Addr}
 use Rattle.px_bytes.specs.declared.addr.Side.{Side}
 use Rattle.px_bytes.specs.declared.addr.Side.TheVariants.{Client, Server}
-use Rattle.px_bytes.specs.declared.fault.FaultKind.{FaultKind}
 use Rattle.px_bytes.specs.declared.fault.HttpFault.{HttpFault}
 use Rattle.px_bytes.specs.declared.fault.HttpFault.TheVariants as fault
 use Rattle.px_bytes.specs.declared.fault.Reply.{Reply}
@@ -32,17 +31,16 @@ use Rattle.irule_net.specs.declared.state.Target.{Target}
 use Rattle.irule_net.specs.declared.state.Target.TheVariants.{Default, PoolOf, MemberOf, NodeAt}
 use Rattle.conn_trace.specs.Bodies.{run_body, act_item, ended_next, act_next, bodies_next, peer_of}
 use Rattle.conn_trace.specs.Fronts.{after_byte, is_at_end, one_less}
-use Rattle.conn_trace.specs.Gates.{other}
 use Rattle.conn_trace.specs.Host.{HostState, http_of, with_loose, with_selected}
 use Rattle.conn_trace.specs.Http.{with_gathered, with_whole}
-use Rattle.conn_trace.specs.Item.{Item, Reason, Closed, Http as HttpReason, Tcl, Choice, PassesOn, Fires, Reuses, Answered, Connected, Finished, Fired, Called, Moved, Passed, Read, Resumed, Retires, Reused, Sent, Opened, Logged, Ran, BeforeBodies, ToClient, ToServer}
-use Rattle.conn_trace.specs.Phases.{OrderlyIn, Fits, is_leaving}
-use Rattle.conn_trace.specs.Places.{Place, at as put, place, is_up, finish, gather_event, giving_up, enter, after_body, after_fault, closed, data_event}
+use Rattle.conn_trace.specs.Item.{Item, Reason, Closed, Http as HttpReason, Choice, PassesOn, Fires, Reuses, Answered, Connected, Finished, Fired, Called, Moved, Passed, Read, Resumed, Retires, Reused, Sent, Opened, Logged, Ran, BeforeBodies, ToClient, ToServer}
+use Rattle.conn_trace.specs.Phases.{OrderlyIn, is_leaving}
+use Rattle.conn_trace.specs.Places.{Place, at as put, place, is_up, finish, gather_event, enter, after_body, after_fault, closed, data_event}
 use Rattle.conn_trace.specs.Relay.{incoming, RelayAct, BothDone, Passing, Firing, Resting, relay_act, fired_host, collect_act, behind_fires}
-use Rattle.conn_trace.specs.Messages.{answer_next, asked_version, body_end_next, byte_gathered, continuing_next, dropping_next, fault_by, fault_next, final_next, gathered_on, gathered_place, gathering_next, giving_up_next, head_next, heading_next, http_at, interim_next, is_counted, is_interim, moves_next, reads_next, request_host, request_next, response_host, response_next, retiring_next, reuse_next, sending_next, status_next}
+use Rattle.conn_trace.specs.Messages.{answer_next, asked_version, body_end_next, continuing_next, dropping_next, fault_by, fault_next, gathered_on, gathered_place, gathering_next, giving_up_next, head_next, heading_next, http_at, interim_next, is_counted, is_interim, moves_next, reads_next, request_host, request_next, response_host, response_next, retiring_next, reuse_next, sending_next, status_next}
 use Rattle.conn_trace.specs.Routing.{behind_message, behind_retired, next_request}
 use Rattle.conn_trace.specs.Selected.{addr_of}
-use Rattle.conn_trace.specs.SentBodies.{chunk_line, is_answered, last_line}
+use Rattle.conn_trace.specs.SentBodies.{is_answered, last_line}
 use Rattle.conn_trace.specs.Setup.{Handler, Setup}
 use Rattle.conn_trace.specs.State.{Bodies, Gated, Running, Failing, Phase, AtHead, Continuing, Gathering, AtReuse, GivingUp, Retiring, Heading, Forwarding, Dropping, AtResponse, InEvent, Choosing, Selecting, Connecting, Answering, Releasing, Relaying, Collecting, Finishing, Draining, Behind, BeforeSelect, Stream, ServerSide, NoServer, Sought, There, Leaving, Retired, Link, Absent, Asked, Up, Left, GivenUp, link_of, TraceState, Next, Does, Waits, Over, stream_of, read_server, read_side, leaving, retired}
 use Rattle.conn_trace.specs.Trace.{serving, choosing_next, default_next, selected_next, selecting_next, answering_next, fired_next, relay_next, collect_next, collecting_next, releasing_next, phase_next}

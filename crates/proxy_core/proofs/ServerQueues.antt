@@ -1,16 +1,16 @@
 -- What is queued to the server connections of one connection along items: to the last what was sent to it and not taken, and with what those before lost all that is left.
-use Rattle.std.proofs.Common.{◌≡◌, ◌⊎◌, inl, inr, refl, sym, ap, subst, ◌∙◌, ℕ, zero, suc, ◌+◌, ◌-◌, ◌<◌, ◌≤◌, List, [], ◌∷◌, ◌++◌, append-nil, append_assoc, length, length-append, drop, Bool, true, false, ◌||◌, true≢false, if◌then◌else◌, Option, Some, None, nat_eq, arith, eq-eqb, zero-add}
+use Rattle.std.proofs.Common.{◌≡◌, refl, sym, ap, subst, ◌∙◌, ℕ, zero, suc, ◌+◌, ◌<◌, ◌≤◌, List, [], ◌∷◌, ◌++◌, append-nil, append_assoc, length, length-append, drop, Bool, true, false, ◌||◌, true≢false, if◌then◌else◌, Option, Some, None, arith, eq-eqb, zero-add}
 use Rattle.std.specs.Prelude.{is_some, nat_lt}
 use Rattle.std.specs.Bool.{MatchBool}
 use Rattle.std.proofs.lemmas.List.{drop-append-le}
 use Rattle.std.proofs.lemmas.Grind.{flat_map-append}
 use Rattle.std.proofs.lemmas.Bool.Decides.{nat_tests}
-use Rattle.conn_trace.specs.Heard.{SideHeard, servers_taken}
+use Rattle.conn_trace.specs.Heard.{SideHeard}
 use Rattle.conn_trace.specs.Item.{Item, Answered, Connected, Peer, Retires, Sending, ToClient, ToServer, bytes_to_server, server_output, server_part, shown, to_server}
 use Rattle.conn_trace.specs.Further.{Further, longer}
 use Rattle.conn_trace.specs.Places.{is_up}
 use Rattle.conn_trace.specs.Setup.{Setup}
-use Rattle.conn_trace.specs.State.{Asked, Link, Stream, Does, TraceState, link_of}
+use Rattle.conn_trace.specs.State.{Link, Stream, Does, TraceState, link_of}
 use Rattle.conn_trace.specs.Trace.{Unfolds, next_item}
 use Rattle.conn_trace.proofs.Fair.{PeerIs, SendsTo}
 use Rattle.conn.specs.Servers.{ServerQueue, peer_bytes, queue_along, queue_behind, sending_bytes, servers_output, to_servers}

@@ -1,5 +1,5 @@
 -- The bodies of an event send bytes to a server connection only where one is up.
-use Rattle.std.proofs.Common.{◌≡◌, ◌⊎◌, inl, inr, refl, sym, ap, subst, ◌∙◌, ℕ, zero, suc, ◌+◌, List, [], ◌∷◌, length, Bool, true, false, true≢false, Option, Some, None, arith, append-nil}
+use Rattle.std.proofs.Common.{◌≡◌, ◌⊎◌, inl, inr, refl, sym, ap, ◌∙◌, ℕ, zero, suc, ◌+◌, List, [], ◌∷◌, length, Bool, true, false, true≢false, Some, None, arith}
 use Rattle.std.specs.Prelude.{slice_get}
 use Rattle.px_bytes.specs.Host.{Effect, HostStep, Gives, Faults, Asks, Logged, Sent}
 use Rattle.px_bytes.specs.declared.addr.Side.{Side}
@@ -22,7 +22,7 @@ use Rattle.conn_trace.proofs.BodyKeeps.{act_bytes, acts_bytes, body_holds}
 use Rattle.conn_trace.proofs.HostKeeps.{left, made}
 use Rattle.conn.specs.Servers.{to_servers}
 use Rattle.conn.proofs.Quick.{OneTo, QuickHost, commands_quick}
-use Rattle.proxy_core.proofs.ServerGone.{ToldOf, never}
+use Rattle.proxy_core.proofs.ServerGone.{ToldOf}
 
 -- what an item sends to a server connection goes to one that is up
 abbrev pub SendsUp : Link → Item → Type 0

@@ -9,7 +9,7 @@ use Rattle.conn_trace.specs.Places.{finish}
 use Rattle.conn_trace.specs.Trace.{phase_next, cut_takes, uncut, cut_open, cut_next, counted, next_item, GivesNoMore}
 use Rattle.proxy_core.specs.Servers.{awaits}
 use Rattle.proxy_core.proofs.ServerGone.{never}
-use Rattle.proxy_core.proofs.ServerPhases.{Going, Quiet, SideBy, SideNext, finish_quiet, phase_side}
+use Rattle.proxy_core.proofs.ServerPhases.{Going, SideBy, SideNext, finish_quiet, phase_side}
 
 -- behind a closed gate no answer waits
 shut_waits : (i : Item) (p : Phase) (l m : TraceState) (sent : Counts) (took : TakenCounts) → SideBy i p l m → may_give i sent took ≡ false → awaits p ≡ true → l.answers.connects ≡ []

@@ -4,7 +4,7 @@ use Rattle.px_bytes.specs.declared.addr.Side.{Side}
 use Rattle.px_bytes.specs.declared.addr.Side.TheVariants.{Client, Server}
 use Rattle.conn_trace.specs.Gates.{no_bytes, sent_from, taken_of, to_take, untaken}
 use Rattle.conn_trace.specs.Heard.{Heard, SideHeard, taken, taken_by}
-use Rattle.conn_trace.specs.Item.{Item, client_output, server_output}
+use Rattle.conn_trace.specs.Item.{client_output, server_output}
 use Rattle.conn_trace.proofs.Sending.{sent_to_server}
 use Rattle.conn.specs.Ends.{connects_by, has_stream, is_taken, number_by, sent_here, servers_by}
 use Rattle.conn.specs.Holds.{HoldsEnds}

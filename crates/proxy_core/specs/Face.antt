@@ -1,5 +1,5 @@
 -- The face of the core: what a loop may ask of it, for every past that it stands for.
-use Rattle.std.specs.Prelude.{◌≡◌, ◌≤◌, ◌-◌, ◌^◌, ℕ, List, length, min, None, refl}
+use Rattle.std.specs.Prelude.{◌≡◌, ◌≤◌, ◌-◌, ◌^◌, ℕ, length, min, None, refl}
 use Rattle.core_events.specs.declared.event.Event.{Event}
 use Rattle.core_events.specs.declared.event.Event.TheVariants as event
 use Rattle.core_events.specs.Face.{Face}

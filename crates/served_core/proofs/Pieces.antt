@@ -1,8 +1,7 @@
 -- The piece that a write with its event tells a side to have taken.
-use Rattle.std.proofs.Common.{◌≡◌, ℕ, ◌<◌, ◌-◌, List, [], length, take, drop, Bool, true, false, true≢false, Option, Some, None, nat_eq, if◌then◌else◌, inl, inr}
+use Rattle.std.proofs.Common.{◌≡◌, ℕ, ◌<◌, List, [], length, take, drop, Bool, true, false, true≢false, Option, Some, None, nat_eq, if◌then◌else◌, inl, inr}
 use Rattle.std.proofs.Common.{refl, ap, sym, ◌∙◌, subst, arith}
 use Rattle.std.specs.Prelude.{Ok, Err, not, option_map, unwrap_or}
-use Rattle.std.proofs.lemmas.List.{length-drop}
 use Rattle.px_bytes.specs.declared.addr.Side.{Side}
 use Rattle.px_bytes.specs.declared.addr.Side.TheVariants.{Client, Server}
 use Rattle.px_outside.specs.declared.answers.Accepted.TheVariants as accepted
@@ -18,7 +17,7 @@ use Rattle.core_events.specs.declared.event.Event.TheVariants as told
 use Rattle.core_events.specs.Edges.{may_take}
 use Rattle.conn.specs.declared.connection.Conn.{Conn}
 use Rattle.core_events.specs.declared.event_kind.EventKind.{EventKind}
-use Rattle.conn_trace.specs.Heard.{Heard, has_made, taken_by}
+use Rattle.conn_trace.specs.Heard.{has_made, taken_by}
 use Rattle.conn_trace.specs.Item.{client_output}
 use Rattle.proxy_core.specs.Asked.{edges_of, left_of}
 use Rattle.core_events.specs.Kinds.{kind_of}

@@ -11,7 +11,7 @@ use Rattle.conn_trace.specs.Heard.{hears}
 use Rattle.conn_trace.specs.Item.{to_client}
 use Rattle.proxy_core.specs.Represents.{Represents}
 use Rattle.core_events.specs.Kinds.{kind_of}
-use Rattle.record_model.specs.Past.{Happened, Past, heard}
+use Rattle.record_model.specs.Past.{Past, heard}
 use Rattle.proxy_core.specs.Steps.{KeepsStanding}
 use Rattle.proxy_core.specs.Moves.{MovesBy}
 use Rattle.proxy_core.specs.Refusal.{refused}
