@@ -354,4 +354,6 @@ bytes_bounded C past s leads c accepted side =
     record {
       unread_is_bounded = (held_of side l few.lies).rest;
       pending_is_bounded = pending_bounded (setup_of C z.heard) (heads_fit C z.heard) began.client began.answers l z.place (taken z.heard) side k.stands k.met few.passes;
+      payload_is_bounded = few.lies.host.payload;
+      heads_are_bounded = few.lies.host.heads;
     }

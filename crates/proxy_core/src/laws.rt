@@ -33,7 +33,8 @@ pub fn servers_are_numbered()
 {}
 
 /// Behind every past, of each side of a connection no more than 65,536 bytes lie unread, and fewer
-/// than 2,400,000 are pending to it.
+/// than 2,400,000 are pending to it; of a body no more than 1,048,576 are gathered, and heads have no
+/// more than 100 fields and 66,000 bytes.
 pub fn bytes_are_bounded()
     ensures { BytesAreBounded }
 {}
