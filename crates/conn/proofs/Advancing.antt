@@ -64,7 +64,7 @@ use Rattle.conn.specs.Servers.{closed_notes}
 use Rattle.conn.proofs.Reusing.{gives_up, retires, reuses}
 use Rattle.conn.proofs.Responding.{reads_response, response_noted, answer_group as reply_group}
 use Rattle.conn.specs.Gathering.{gathered_to, part_there}
-use Rattle.conn.proofs.Gathering.{gathered_group, gathers_body, gathers_noted, gathers_or, gathers_tells}
+use Rattle.conn.proofs.GatherFronts.{gathered_group, gathers_body, gathers_noted, gathers_or, gathers_tells}
 use Rattle.conn.proofs.Sending.{forwards_body, forwards_noted, heading_noted, part_group, sends_head}
 use Rattle.conn.proofs.RequestActs.{answers_or, forwards_or, heading_or}
 

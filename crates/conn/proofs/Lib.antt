@@ -49,6 +49,8 @@ pub mod RelayItems
 pub mod CutItems
 pub mod PassItems
 pub mod Pending
+mod GatherFronts
+mod GatherReads
 mod GatherUnits
 pub mod Gating
 pub mod Choosing
