@@ -74,7 +74,7 @@ module _ {K X : Type 0} (bytes : K → List ℕ) where
   pub seen_written : (name asked : List ℕ) (x : X) (es : List (K × X)) → IsSome (lookup (has_bytes bytes name) es)
       → lookup (bytes_eq asked) (seen bytes (set_value (has_bytes bytes name) es x))
       ≡ cond (bytes_eq asked name) (Some x) (lookup (bytes_eq asked) (seen bytes es))
-  seen_written name asked x [] there = absurd there
+  seen_written name asked x [] there = cc
   seen_written name asked x (e ∷ es) there = by_key (has_bytes bytes name e.0) refl (λ behind. seen_written name asked x es behind) there
     where
       by_key : (b : Bool) → has_bytes bytes name e.0 ≡ b
