@@ -22,10 +22,11 @@ import socket
 import subprocess
 import sys
 import tempfile
+import time
 
 import request_readers
 import response_readers
-from message_streams import WAIT, Side, connected, listener, requests, responses
+from message_streams import WAIT, Side, listener, requests, responses
 from request_readers import RequestReader, bytes_of
 from response_readers import ResponseReader
 
@@ -75,15 +76,27 @@ class Case:
         return self.ends_well and not kinds & left and self.config.count("addr =") == 1 and 'addr = "10.0.0.1:80"' in self.config
 
 
+def listens(process):
+    """Whether the program serves, which ends where it doesn't run the configuration."""
+    while process.poll() is None:
+        try:
+            socket.create_connection(LISTEN, 1).close()
+            return True
+        except OSError:
+            time.sleep(0.01)
+    return False
+
+
 def served(program, case, folder):
-    """What the client got, and each server connection, by `serve`."""
+    """What the client got, and each server connection, by `serve`; None where it runs no such configuration."""
     path = f"{folder}/config.toml"
     with open(path, "w", encoding="utf-8") as file:
         file.write(case.config)
     origin, servers, took = listener(ORIGIN), [], collections.Counter()
     process = subprocess.Popen([program, "serve", path], stdout=subprocess.DEVNULL, stderr=subprocess.DEVNULL)
     try:
-        connected(LISTEN[1]).close()
+        if not listens(process):
+            return None
         client = Side(socket.create_connection(LISTEN, WAIT, (CLIENT, 0)))
         for kind, *words in case.schedule:
             if kind == "client":
@@ -170,9 +183,8 @@ class Comparison:
         return said
 
 
-def differs(program, case, folder, readers):
-    """What differs of a case."""
-    client, servers = served(program, case, folder)
+def differs(case, client, servers, readers):
+    """What differs of a case, of which these bytes came."""
     said, forwarded = [], []
     if not all(came.startswith(due) for came, due in zip((client, *servers), (case.client, *case.servers))):
         said.append(f"by serve the client got {client}, its servers {servers}")
@@ -197,17 +209,18 @@ def main():
         readers = Comparison(folder, words.http1 and os.path.abspath(words.http1))
         try:
             for case in map(Case, words.names or sorted(os.listdir(CASES))):
-                if not case.is_plain():
+                came = served(program, case, folder) if case.is_plain() else None
+                if came is None:
                     left += 1
                     continue
                 ran += 1
-                said = differs(program, case, folder, readers)
+                said = differs(case, *came, readers)
                 failed += bool(said)
                 for it in said:
                     print(f"{case.name} ({case.says}): {it}", flush=True)
         finally:
             readers.end()
-    print(f"{ran} cases were served, {left} weren't (more members, a refused connect, a reset, a line at fault)")
+    print(f"{ran} cases were served, {left} weren't (more members, a refused connect, a reset, a line at fault, a rule that the program doesn't run)")
     for (kind, name, how), count in sorted(readers.told.items()):
         print(f"{kind:10} {name:8} {how:28} {count:5}")
     return 1 if failed else 0
