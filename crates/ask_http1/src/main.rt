@@ -2,7 +2,7 @@
 //! has the form of the lines.
 #![tactic(auto)]
 
-mod input;
+mod held;
 mod requests;
 mod responses;
 

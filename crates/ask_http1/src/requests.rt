@@ -1,6 +1,6 @@
 // The requests of a stream, as a server reads them.
 
-use crate::input::{Input, MOST_EVENTS, part, say_all, say_refused};
+use crate::held::{HeldStream, MOST_EVENTS, part, say_all, say_refused};
 use http1::{BodySize, Event, Limits, Progress, Server, WriteError};
 use httparse::spans::RequestSpans;
 use questions::Question;
@@ -9,7 +9,7 @@ use questions::Question;
 #[derive(Drop)]
 struct Requests<'a> {
     server: Server,
-    input: Input<'a>,
+    held: HeldStream<'a>,
     written: Vec<u8>,
 }
 
@@ -18,7 +18,7 @@ pub fn answer(question: &mut Question<'_>) {
     let stream = question.text();
     let mut requests = Requests {
         server: Server::new(Limits::default()),
-        input: Input::new(question.alloc, stream.as_bytes()),
+        held: HeldStream::new(question.alloc, stream.as_bytes()),
         written: Vec::new(question.alloc),
     };
     for _ in 0..MOST_EVENTS {
@@ -31,7 +31,7 @@ pub fn answer(question: &mut Question<'_>) {
 impl Requests<'_> {
     // Takes the next event, and says whether another can come.
     fn goes_on(&mut self, question: &mut Question<'_>) -> bool {
-        match self.server.read(self.input.left, &mut self.input.fields) {
+        match self.server.read(self.held.left, &mut self.held.fields) {
             Ok(read) => self.take(question, read),
             Err(fault) => {
                 say_refused(question, fault);
@@ -41,15 +41,15 @@ impl Requests<'_> {
     }
 
     fn take(&mut self, question: &mut Question<'_>, read: Progress<RequestSpans>) -> bool {
-        let came = self.input.left;
-        self.input.let_go(read.consumed);
+        let came = self.held.left;
+        self.held.let_go(read.consumed);
         match read.event {
             Event::Head(head) => {
-                self.input.begin();
+                self.held.begin();
                 say_all(question, part(came, head.method));
                 say_all(question, part(came, head.path));
             }
-            Event::Data(piece) => self.input.keep(question, part(came, piece)),
+            Event::Data(piece) => self.held.keep(question, part(came, piece)),
             Event::End(_) => return self.respond(question),
             other => return self.stops(question, other),
         }
@@ -58,7 +58,7 @@ impl Requests<'_> {
 
     // Answers a request that is whole.
     fn respond(&mut self, question: &mut Question<'_>) -> bool {
-        self.input.end(question);
+        self.held.end(question);
         self.written.clear();
         let responded = self.write_response();
         if responded.is_err() || self.server.is_closed() {
@@ -78,7 +78,7 @@ impl Requests<'_> {
     // Says how a stream stands of which it reads no more.
     fn stops(&mut self, question: &mut Question<'_>, event: Event<RequestSpans>) -> bool {
         match event {
-            Event::NeedMore => self.input.say_rest(question),
+            Event::NeedMore => self.held.say_rest(question),
             _ => question.say("closed"),
         }
         false

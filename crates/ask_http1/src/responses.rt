@@ -1,6 +1,6 @@
 // The responses of a stream, as a client reads them.
 
-use crate::input::{Input, MOST_EVENTS, part, say_refused};
+use crate::held::{HeldStream, MOST_EVENTS, part, say_refused};
 use http1::{BodySize, Client, Event, Header, Limits, Progress, WriteError};
 use httparse::spans::ResponseSpans;
 use questions::Question;
@@ -9,7 +9,7 @@ use questions::Question;
 #[derive(Drop)]
 struct Responses<'a> {
     client: Client,
-    input: Input<'a>,
+    held: HeldStream<'a>,
     // Of the requests that aren't sent yet.
     methods: &'a [&'a str],
     has_ended: bool,
@@ -22,7 +22,7 @@ pub fn answer(question: &mut Question<'_>) {
     let stream = question.text();
     let mut responses = Responses {
         client: Client::new(Limits::default()),
-        input: Input::new(question.alloc, stream.as_bytes()),
+        held: HeldStream::new(question.alloc, stream.as_bytes()),
         methods: question.rest(),
         has_ended,
         written: Vec::new(question.alloc),
@@ -40,7 +40,7 @@ impl Responses<'_> {
         if self.client.is_idle() && !self.ask() {
             question.refuse();
         }
-        match self.client.read(self.input.left, &mut self.input.fields) {
+        match self.client.read(self.held.left, &mut self.held.fields) {
             Ok(read) => self.take(question, read),
             Err(fault) => {
                 say_refused(question, fault);
@@ -73,19 +73,19 @@ impl Responses<'_> {
     }
 
     fn take(&mut self, question: &mut Question<'_>, read: Progress<ResponseSpans>) -> bool {
-        let came = self.input.left;
-        self.input.let_go(read.consumed);
+        let came = self.held.left;
+        self.held.let_go(read.consumed);
         match read.event {
             Event::Head(head) => {
-                self.input.begin();
+                self.held.begin();
                 question.say_number(u64::from(head.code));
             }
             Event::Informational(head) => {
                 question.say_number(u64::from(head.code));
                 question.say("-");
             }
-            Event::Data(piece) => self.input.keep(question, part(came, piece)),
-            Event::End(_) => self.input.end(question),
+            Event::Data(piece) => self.held.keep(question, part(came, piece)),
+            Event::End(_) => self.held.end(question),
             Event::NeedMore if self.has_ended => return self.ends(question),
             other => return self.stops(question, other),
         }
@@ -96,7 +96,7 @@ impl Responses<'_> {
     fn ends(&mut self, question: &mut Question<'_>) -> bool {
         match self.client.read_eof() {
             Ok(Event::End(_)) => {
-                self.input.end(question);
+                self.held.end(question);
                 question.say("closed");
             }
             Ok(_) => question.say("closed"),
@@ -108,9 +108,9 @@ impl Responses<'_> {
     // Says how a stream stands of which it reads no more.
     fn stops(&mut self, question: &mut Question<'_>, event: Event<ResponseSpans>) -> bool {
         match event {
-            Event::NeedMore => self.input.say_rest(question),
+            Event::NeedMore => self.held.say_rest(question),
             Event::Paused => question.say("end"),
-            Event::Closed if self.input.left.is_empty() => question.say("closed"),
+            Event::Closed if self.held.left.is_empty() => question.say("closed"),
             _ => question.say("behind"),
         }
         false

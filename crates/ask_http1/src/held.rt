@@ -13,16 +13,16 @@ pub const MOST_EVENTS: usize = 10_000_000;
 
 /// What is left of a stream, and the message of which some was read.
 #[derive(Drop)]
-pub struct Input<'a> {
+pub struct HeldStream<'a> {
     pub left: &'a [u8],
     pub fields: [HeaderSpan; MOST_FIELDS],
     is_open: bool,
     body: Vec<u8>,
 }
 
-impl<'a> Input<'a> {
-    pub fn new(alloc: Global, stream: &'a [u8]) -> Input<'a> {
-        Input {
+impl<'a> HeldStream<'a> {
+    pub fn new(alloc: Global, stream: &'a [u8]) -> HeldStream<'a> {
+        HeldStream {
             left: stream,
             fields: [EMPTY_HEADER_SPAN; MOST_FIELDS],
             is_open: false,
