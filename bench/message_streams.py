@@ -3,7 +3,7 @@ import collections
 import socket
 import time
 
-WAIT = 5.0
+WAIT = 20.0
 Response = collections.namedtuple("Response", "raw status body closes")
 
 
@@ -22,7 +22,7 @@ def listener(address):
     return it
 
 
-def connected(port, seconds=WAIT):
+def connected(port, seconds=60):
     end = time.time() + seconds
     while True:
         try:

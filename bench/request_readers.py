@@ -25,9 +25,9 @@ HAPROXY = """global
     nbthread 1
 defaults
     mode http
-    timeout client 5s
-    timeout server 5s
-    timeout connect 5s
+    timeout client 20s
+    timeout server 20s
+    timeout connect 20s
 listen l
     bind 127.0.0.1:%(port)d
     server s 127.0.0.1:%(behind)d
@@ -144,7 +144,7 @@ class RequestReader:
         self.found.clear()
         side = Side(connected(self.port))
         side.socket.sendall(stream)
-        end = time.time() + (WAIT if whole else 0.3)
+        end = time.time() + (WAIT if whole else 1.0)
         while time.time() < end and not side.ended and "/further" not in {it[1] for it in self.found}:
             side.more(0.02)
         time.sleep(0.02)

@@ -33,9 +33,9 @@ HAPROXY = """global
 defaults
     mode http
     retries 0
-    timeout client 5s
-    timeout server 5s
-    timeout connect 5s
+    timeout client 20s
+    timeout server 20s
+    timeout connect 20s
 listen l
     bind 127.0.0.1:%(port)d
     http-reuse always
@@ -189,7 +189,7 @@ class ResponseReader:
     def read(self, parts, methods, ends, whole):
         """What it reads of the parts of a stream, and whether it refused or closed."""
         self.origin.begin(parts, ends)
-        methods, seconds = ["HEAD" if it == "HEAD" else "GET" for it in methods], WAIT if whole else 0.4
+        methods, seconds = ["HEAD" if it == "HEAD" else "GET" for it in methods], WAIT if whole else 1.0
         if self.name == "curl":
             read = by_curl(self.folder, self.origin.port, methods, seconds)
         elif self.name == "node":
