@@ -142,6 +142,7 @@ def by_http1(program, stream, methods, ended):
 def by_curl(folder, port, methods, seconds):
     words = ["curl", "--fail-early"]
     for at, method in enumerate(methods):
+        open(f"{folder}/curl.{at}", "wb").close()
         words += ["--next"] if at else []
         words += ["-s", "--http1.1", "--max-time", str(seconds), "-o", f"{folder}/curl.{at}", "-w", "%{http_code} %{exitcode}\\n"]
         words += [*(["-I"] if method == "HEAD" else []), f"http://127.0.0.1:{port}/"]
