@@ -1,7 +1,9 @@
 #!/usr/bin/env python3
 """Runs ambiguous streams of HTTP over real sockets, and has others read what went on of each, and what went back.
 
-    bench/ambiguous.py PROGRAM [--http1 PROGRAM] [NAME ..]     PROGRAM is a built crates/ciravogu/out/ciravogu, the other crates/ask_http1's
+    bench/ambiguous.py PROGRAM [--http1 PROGRAM] [NAME ..]
+
+PROGRAM is a built crates/ciravogu/out/ciravogu, the other one crates/ask_http1/out/ask_http1, which is taken where it was built.
 
 Each case of tests/cases/smuggling (or those named) with one member, no refused connect and no faulty line is run by `serve`: a client and a server
 follow its schedule, and both must get the bytes that the case says they took. Then what the server got, with one further request behind it
@@ -31,7 +33,7 @@ from request_readers import RequestReader, bytes_of
 from response_readers import ResponseReader
 
 HERE = os.path.dirname(os.path.realpath(__file__))
-CASES = f"{HERE}/../tests/cases/smuggling"
+CASES, HTTP1 = f"{HERE}/../tests/cases/smuggling", f"{HERE}/../crates/ask_http1/out/ask_http1"
 ORIGIN, CLIENT, LISTEN = ("10.0.0.1", 80), "10.0.0.9", ("127.0.0.1", 9000)
 FURTHER = b"GET /further HTTP/1.1\r\nHost: a\r\n\r\n"
 FURTHER_RESPONSE = b"HTTP/1.1 200 OK\r\nContent-Length: 7\r\n\r\nfurther"
@@ -199,7 +201,7 @@ def differs(case, client, servers, readers):
 def main():
     words = argparse.ArgumentParser()
     words.add_argument("program")
-    words.add_argument("--http1")
+    words.add_argument("--http1", default=HTTP1 if os.path.exists(HTTP1) else None)
     words.add_argument("names", nargs="*")
     words = words.parse_args()
     program, failed, ran, left = os.path.abspath(words.program), 0, 0, 0
