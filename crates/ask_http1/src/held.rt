@@ -1,12 +1,12 @@
 // What both roles read of a stream.
 
 use http1::ReadError;
-use httparse::spans::{EMPTY_HEADER_SPAN, HeaderSpan, Span};
+use httparse::spans::Span;
 use questions::Question;
 use std::alloc::Global;
 
 /// The most fields of a head, and of the trailers of a body.
-const MOST_FIELDS: usize = 100;
+pub const MOST_FIELDS: usize = 100;
 
 /// The most events that are taken of one stream.
 pub const MOST_EVENTS: usize = 10_000_000;
@@ -15,7 +15,6 @@ pub const MOST_EVENTS: usize = 10_000_000;
 #[derive(Drop)]
 pub struct HeldStream<'a> {
     pub left: &'a [u8],
-    pub fields: [HeaderSpan; MOST_FIELDS],
     is_open: bool,
     body: Vec<u8>,
 }
@@ -24,7 +23,6 @@ impl<'a> HeldStream<'a> {
     pub fn new(alloc: Global, stream: &'a [u8]) -> HeldStream<'a> {
         HeldStream {
             left: stream,
-            fields: [EMPTY_HEADER_SPAN; MOST_FIELDS],
             is_open: false,
             body: Vec::new(alloc),
         }

@@ -1,8 +1,8 @@
 // The requests of a stream, as a server reads them.
 
-use crate::held::{HeldStream, MOST_EVENTS, part, say_all, say_refused};
+use crate::held::{HeldStream, MOST_EVENTS, MOST_FIELDS, part, say_all, say_refused};
 use http1::{BodySize, Event, Limits, Progress, Server, WriteError};
-use httparse::spans::RequestSpans;
+use httparse::spans::{EMPTY_HEADER_SPAN, RequestSpans};
 use questions::Question;
 
 /// What a server read, and what it writes.
@@ -31,7 +31,9 @@ pub fn answer(question: &mut Question<'_>) {
 impl Requests<'_> {
     // Takes the next event, and says whether another can come.
     fn goes_on(&mut self, question: &mut Question<'_>) -> bool {
-        match self.server.read(self.held.left, &mut self.held.fields) {
+        let left = self.held.left;
+        let mut fields = [EMPTY_HEADER_SPAN; MOST_FIELDS];
+        match self.server.read(left, &mut fields) {
             Ok(read) => self.take(question, read),
             Err(fault) => {
                 say_refused(question, fault);

@@ -1,8 +1,8 @@
 // The responses of a stream, as a client reads them.
 
-use crate::held::{HeldStream, MOST_EVENTS, part, say_refused};
+use crate::held::{HeldStream, MOST_EVENTS, MOST_FIELDS, part, say_refused};
 use http1::{BodySize, Client, Event, Header, Limits, Progress, WriteError};
-use httparse::spans::ResponseSpans;
+use httparse::spans::{EMPTY_HEADER_SPAN, ResponseSpans};
 use questions::Question;
 
 /// What a client read, and what it asks.
@@ -40,7 +40,9 @@ impl Responses<'_> {
         if self.client.is_idle() && !self.ask() {
             question.refuse();
         }
-        match self.client.read(self.held.left, &mut self.held.fields) {
+        let left = self.held.left;
+        let mut fields = [EMPTY_HEADER_SPAN; MOST_FIELDS];
+        match self.client.read(left, &mut fields) {
             Ok(read) => self.take(question, read),
             Err(fault) => {
                 say_refused(question, fault);
