@@ -53,7 +53,8 @@ text = '''%s'''
 """
 MOST, LIMIT = 1_048_576, 8 * 1024 * 1024
 COLLECTS = "when HTTP_REQUEST { HTTP::collect }"
-RETURNS = """when HTTP_RESPONSE { HTTP::collect }
+# One variable and its name are to stay within 1,048,576 bytes.
+RETURNS = """when HTTP_RESPONSE { HTTP::collect 1000000 }
 when HTTP_RESPONSE_DATA { set kept [HTTP::payload]; HTTP::payload replace 0 [HTTP::payload length] $kept }"""
 ANSWERS = COLLECTS + """
 when HTTP_REQUEST_DATA { HTTP::respond 200 -version 1.1 content [string repeat x 1000000] }"""
@@ -94,7 +95,7 @@ def send_all(link, sends):
 
 
 def server(links, name):
-    """Takes connections and reads one request's head of each at most; in `returned` each is answered by 4 MB."""
+    """Takes connections, and reads nothing of them but a byte; in `returned` each is answered by 4 MB."""
     links.settimeout(60)
     kept = []
     while True:
@@ -104,7 +105,7 @@ def server(links, name):
             return
         kept.append(link)
         if name == "returned":
-            link.recv(65536)
+            link.recv(1)
             answer = b"HTTP/1.1 200 OK\r\nContent-Length: %d\r\n\r\n" % (4 * MOST) + b"x" * (4 * MOST)
             threading.Thread(target=send_all, args=(link, answer), daemon=True).start()
 
@@ -128,9 +129,9 @@ def wait(port):
 
 
 def settled(pid):
-    """Waits until the program's memory stays as it is for two seconds."""
+    """Waits until the program's memory stays as it is for five seconds."""
     before, still = 0, 0
-    while still < 4:
+    while still < 10:
         now = most_resident(pid)
         before, still = now, still + 1 if now == before else 0
         time.sleep(0.5)
