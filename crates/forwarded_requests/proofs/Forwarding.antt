@@ -92,13 +92,12 @@ module _ (g : Setup) (l m : TraceState) (head : RequestHead) (heads : g.heads �
       let phase : mid.phase ≡ Forwarding Client h.reader (opens h) = went.phase ∙ ap (behind_head Client l.host) part in
       let rest : Passes h.reader (opens h) mid m (j ∷ items) = passes g m j items mid h.reader (opens h) phase (fits h head framed part) forwards in
       let body : IsBody h.reader l.client.unread l.client.ended rest.0 m.client.unread =
-      subst (λ (c : Stream). IsBody h.reader c.unread c.ended rest.0 m.client.unread) went.client rest.1 in
-      (
+      subst (λ (c : Stream). IsBody h.reader c.unread c.ended rest.0 m.client.unread) went.client rest.1 in (
         rest.0,
         comes_part h.whole h.reader l m rest.0 part body,
         gives i (j ∷ items) rest.0 went.sends
-        (λ more. behind_part h.whole h.reader (opens h) (server_output l.sent.number (j ∷ items) ++ more) rest.0 more part
-        (subst (λ k. Behind false h.reader (opens h) (server_output k (j ∷ items) ++ more) rest.0 more) went.number (rest.2 more))),
+            (λ more. behind_part h.whole h.reader (opens h) (server_output l.sent.number (j ∷ items) ++ more) rest.0 more part
+            (subst (λ k. Behind false h.reader (opens h) (server_output k (j ∷ items) ++ more) rest.0 more) went.number (rest.2 more))),
       )
 
 pub forwarded_one : ForwardedIsOne

@@ -45,8 +45,11 @@ both_known w x is =
     same : is_size w ≡ true → (t : Bool) → (digits_value 10 w == digits_value 10 x) ≡ t
         → (size_both (size_named w) (size_named x) ≡ size_named []) ⊎ ((is_size w ≡ true) × (size_both (size_named w) (size_named x) ≡ size_named w))
     same so true equal =
-        inr (so, ap₂ (λ s t. size_both s t) (cond-true (is_size w) _ _ so) (cond-true (is_size x) _ _ is)
-        ∙ cond-true (digits_value 10 w == digits_value 10 x) _ _ equal ∙ sym (cond-true (is_size w) _ _ so))
+        inr (
+          so,
+          ap₂ (λ s t. size_both s t) (cond-true (is_size w) _ _ so) (cond-true (is_size x) _ _ is)
+              ∙ cond-true (digits_value 10 w == digits_value 10 x) _ _ equal ∙ sym (cond-true (is_size w) _ _ so),
+        )
     same so false other =
         inl (ap₂ (λ s t. size_both s t) (cond-true (is_size w) _ _ so) (cond-true (is_size x) _ _ is)
         ∙ cond-false (digits_value 10 w == digits_value 10 x) _ _ other)

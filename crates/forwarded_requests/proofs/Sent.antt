@@ -157,35 +157,32 @@ module _ (g : Setup) (m : TraceState) where
     by_byte : (mid : TraceState) (items : List Item) (phase : Phase) → part_of s l.client.unread l.client.ended ≡ Byte → to_server l.sent.number i ≡ take 1 l.client.unread
         → Reads l mid 1 phase → Passes (after_byte s) standing mid m items → Passes s standing l m (i ∷ items)
     by_byte mid items phase part sends reads behind =
-        let u = l.client.unread in
-        (
+        let u = l.client.unread in (
           take 1 u ++ behind.0,
           a_byte s u l.client.ended behind.0 m.client.unread part (unread_same 1 mid phase (after_byte s) behind.0 reads behind.1),
           λ more. subst (λ out. Sends s standing out (take 1 u ++ behind.0) more) (behind_item l mid i items (take 1 u) more sends reads.number)
-          (byte_sent s standing u (server_output mid.sent.number items ++ more) l.client.ended behind.0 more fits part (behind.2 more)),
+              (byte_sent s standing u (server_output mid.sent.number items ++ more) l.client.ended behind.0 more fits part (behind.2 more)),
         )
 
     by_line : (mid : TraceState) (items : List Item) (phase : Phase) (n size : ℕ) → part_of s l.client.unread l.client.ended ≡ Chunk n size
         → to_server l.sent.number i ≡ chunk_line standing size → Reads l mid n phase → Passes (state.Chunk size) true mid m items → Passes s standing l m (i ∷ items)
     by_line mid items phase n size part sends reads behind =
         let u = l.client.unread in
-        let sized = line_sized s u l.client.ended n size part in
-        (
+        let sized = line_sized s u l.client.ended n size part in (
           behind.0,
           a_line s u l.client.ended n size behind.0 m.client.unread part (unread_same n mid phase (state.Chunk size) behind.0 reads behind.1),
           λ more. subst (λ out. Sends s standing out behind.0 more) (behind_item l mid i items (chunk_line standing size) more sends reads.number)
-          (line_sent s standing u (server_output mid.sent.number items ++ more) l.client.ended n size behind.0 more fits part sized (behind.2 more)),
+              (line_sent s standing u (server_output mid.sent.number items ++ more) l.client.ended n size behind.0 more fits part sized (behind.2 more)),
         )
 
     by_end : (n : ℕ) (phase : Phase) → part_of s l.client.unread l.client.ended ≡ End n → to_server l.sent.number i ≡ end_text s standing
         → Reads l m n phase → Passes s standing l m (i ∷ [])
     by_end n phase part sends reads =
-        let u = l.client.unread in
-        (
+        let u = l.client.unread in (
           [],
           subst (λ r. IsBody s u l.client.ended [] r) (sym reads.unread) (an_end s u l.client.ended n part),
           λ more. subst (λ out. Sends s standing out [] more) (behind_item l m i [] (end_text s standing) more sends reads.number)
-          (end_sent s standing u l.client.ended n more fits part),
+              (end_sent s standing u l.client.ended n more fits part),
         )
 
   response_on : (p : Phase) → p ≡ AtResponse → is_on p ≡ true
