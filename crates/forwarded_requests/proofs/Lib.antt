@@ -1,0 +1,13 @@
+pub mod Decimals
+pub mod Forwarding
+pub mod Framings
+pub mod Going
+pub mod HexBack
+pub mod LineSizes
+pub mod OneRequest
+pub mod OutFraming
+pub mod PassedFields
+pub mod ReadBodies
+pub mod Sent
+pub mod SentParts
+pub mod Whole
