@@ -6,9 +6,9 @@
 PROGRAM is crates/ciravogu/out/ciravogu. Clients send up to eight requests on a connection, some of them at once, with bodies of a told
 length or in chunks, cut anywhere, and some go in the middle of it. The server answers with told lengths, chunks, bodies to its stream's
 end, 204 and 304, responses before the final one and heads that can't be read, and closes now and then. A rule tells it
-the client's port, answers some requests itself and gives some server connections up. Then the program is ended and its journal is
-replayed: what a client or a server connection got must be a front of what the replay gives it, and what a client got up
-to the end all of it. Prints one line.
+the client's port, answers some requests itself, at once or by their body, gives some server connections up, and gathers bodies of both sides,
+some of them whole, and replaces what it gathered. Then the program is ended and its journal is replayed: what a client or a server
+connection got must be a front of what the replay gives it, and what a client got up to the end all of it. Prints one line.
 """
 import argparse
 import os
@@ -41,11 +41,27 @@ when HTTP_REQUEST {
     HTTP::header insert X-Port [TCP::client_port]
     if {[HTTP::path] equals "/answered"} { HTTP::respond 200 -version 1.1 content "by a rule\\n" }
     if {[HTTP::path] equals "/left"} { LB::detach }
+    if {[HTTP::path] equals "/counted"} { HTTP::collect }
+    if {[HTTP::path] equals "/gathered"} { HTTP::collect 3000 }
 }
-when HTTP_RESPONSE { HTTP::header remove Server; HTTP::header insert X-Status [HTTP::status] }
+when HTTP_REQUEST_DATA {
+    set size [HTTP::payload length]
+    if {[HTTP::path] equals "/counted"} { HTTP::respond 200 -version 1.1 content "gathered $size\n" } elseif {$size > 0} {
+        HTTP::payload replace 0 1 "<$size>"
+        HTTP::release
+    }
+}
+when HTTP_RESPONSE {
+    HTTP::header remove Server
+    HTTP::header insert X-Status [HTTP::status]
+    if {[HTTP::header exists X-Gather]} { HTTP::collect [HTTP::header X-Gather] }
+}
+when HTTP_RESPONSE_DATA {
+    catch { HTTP::payload replace 0 [HTTP::payload length] "in place of [HTTP::payload length]" }
+}
 '''
 """
-PATHS = ["/a", "/b?c=1", "/answered", "/left", "/" + "x" * 900]
+PATHS = ["/a", "/b?c=1", "/answered", "/left", "/counted", "/gathered", "/" + "x" * 900]
 
 
 def chunks(kinds, body):
@@ -78,7 +94,7 @@ def request(kinds, last):
 def response(kinds, method):
     """A response, and whether the connection is to be closed behind it."""
     how = kinds.randrange(12)
-    head = b"HTTP/1.1 200 OK\r\nServer: s\r\n"
+    head = b"HTTP/1.1 200 OK\r\nServer: s\r\n" + kinds.choice((b"", b"", b"X-Gather: 1\r\n", b"X-Gather: 4000\r\n", b"X-Gather: 1048576\r\n"))
     body = b"" if method == b"HEAD" else body_of(kinds)
     before = b"HTTP/1.1 103 Early Hints\r\nLink: x\r\n\r\n" if kinds.random() < 0.1 else b""
     if how < 4:
