@@ -1,0 +1,10 @@
+pub mod Braced
+pub mod Grammar
+pub mod Items
+pub mod Laws
+pub mod Quoted
+pub mod Reading
+pub mod Sketch
+pub mod Stanzas
+pub mod Tables
+pub mod Tokens
