@@ -1,0 +1,6 @@
+pub mod Comes
+pub mod Cuts
+pub mod Kept
+pub mod NamesTold
+pub mod Schedules
+pub mod Sources

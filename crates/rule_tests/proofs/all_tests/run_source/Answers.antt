@@ -1,0 +1,25 @@
+use Rattle.std.proofs.Common.{rules, ◌≡◌}
+use Rattle.test_text.specs.declared.test_file.TestCase.{TestCase}
+use Rattle.rule_tests.specs.Tests.{TestComes}
+use Rattle.rule_tests.proofs.Comes.{at_of, end_of, ends, next_by}
+use Rattle.rule_tests.proofs.all_tests.run_source.Goals as goal
+
+pub loop-test-preserved : goal.loop-test-preserved
+loop-test-preserved g c =
+    let same = c.as_slice-test-items.ensures in record {
+      far = next_by (λ told. TestComes told c.args.words.now c.args.source.now) (g.F.Files.told c.loop-test.files)
+          (g.F.Files.told c.args.files.now) c.args.source.now.file.tests c.loop-test.test-index c.test-item.result c.loop-test.all
+          c.in_ok-passed.passed c.both-all.result c.loop-test.invariant.same_files c.both-all.ensures
+          (at_of TestCase c.as_slice-test-items.result.now c.args.source.now.file.tests c.loop-test.test-index c.test-item.result same
+          c.loop-test-test.true c.test-item.is)
+          c.loop-test.invariant.far c.in_ok-passed.ensures.comes;
+      same_files = search rules;
+    }
+
+pub returns-clause-comes : goal.returns-clause-comes
+returns-clause-comes g c =
+    ends (TestComes (g.F.Files.told c.args.files.now) c.args.words.now c.args.source.now) c.args.source.now.file.tests
+    c.loop-test.test-index c.loop-test.all
+    (end_of TestCase c.as_slice-test-items.result.now c.args.source.now.file.tests c.loop-test.test-index c.as_slice-test-items.ensures
+    c.loop-test-test.false)
+    c.loop-test.invariant.far

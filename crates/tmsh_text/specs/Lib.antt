@@ -1,0 +1,4 @@
+pub mod Braces
+pub mod Items
+pub mod Printed
+pub mod Words
