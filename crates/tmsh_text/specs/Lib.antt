@@ -1,4 +1,0 @@
-pub mod Braces
-pub mod Items
-pub mod Printed
-pub mod Words
