@@ -2,7 +2,10 @@
 #![tactic(auto)]
 
 mod failure;
+mod questions;
 mod quoted;
+mod shown;
+mod stopped;
 mod way;
 
 pub use failure::FailedRun;

@@ -1,0 +1,178 @@
+// What is told of a question that doesn't hold.
+
+use crate::failure::FailedRun;
+use crate::quoted::quoted;
+use crate::shown::{
+    add_agreeing, add_both, add_line, addr_or_none, cause_text, joined, quoted_or, side_name, wish,
+};
+use core_events::Cause;
+use px_bytes::{Addr, M, Side, Text, Texts};
+use std::alloc::Global;
+use test_past::{asked_by, finish_of, is_over, is_wished, next_line, row_told};
+use test_text::{Expectation, Wished, WishedRow};
+
+impl FailedRun<'_> {
+    fn add_gets(
+        &self,
+        alloc: Global,
+        lines: &mut Texts,
+        side: Side,
+        client: usize,
+        what: &Wished,
+    ) -> M<()> {
+        add_line(
+            alloc,
+            lines,
+            &[side_name(side), b" ", self.name(client), b" gets"],
+        )?;
+        let got = self.got(alloc, side, client)?;
+        let shown = quoted(alloc, got.as_bytes())?;
+        add_both(alloc, lines, &wish(alloc, what)?, &shown)?;
+        add_agreeing(alloc, lines, what, got.as_bytes())
+    }
+
+    // The names of these clients.
+    fn names(&self, alloc: Global, clients: &[usize]) -> M<Text> {
+        let mut names = Text::empty(alloc);
+        for client in clients {
+            if names.len() > 0 {
+                names.push(b" ")?;
+            }
+            names.push(self.name(*client))?;
+        }
+        Ok(names)
+    }
+
+    // Whether a client got what is wished.
+    fn has_got(&self, alloc: Global, client: usize, what: &Wished) -> M<bool> {
+        let got = self.got(alloc, Side::Client, client)?;
+        Ok(is_wished(what, got.as_bytes()))
+    }
+
+    // How many of these clients got what is wished, and which.
+    fn who_got(&self, alloc: Global, clients: &[usize], what: &Wished) -> M<Text> {
+        let mut names = Text::empty(alloc);
+        let mut count: usize = 0;
+        for client in clients {
+            if self.has_got(alloc, *client, what)? {
+                count = count.saturating_add(1);
+                names.push(b" ")?;
+                names.push(self.name(*client))?;
+            }
+        }
+        let count = format!(in alloc; "{count}:")?;
+        joined(alloc, &[count.as_bytes(), names.as_bytes()])
+    }
+
+    fn add_some_get(
+        &self,
+        alloc: Global,
+        lines: &mut Texts,
+        count: u64,
+        clients: &[usize],
+        what: &Wished,
+    ) -> M<()> {
+        let names = self.names(alloc, clients)?;
+        let wish = wish(alloc, what)?;
+        add_line(
+            alloc,
+            lines,
+            &[b"of {", names.as_bytes(), b"} get ", wish.as_bytes()],
+        )?;
+        let count = Text::new(alloc, format!(in alloc; "{count}")?.as_bytes())?;
+        add_both(alloc, lines, &count, &self.who_got(alloc, clients, what)?)
+    }
+
+    fn add_server(
+        &self,
+        alloc: Global,
+        lines: &mut Texts,
+        client: usize,
+        addr: Option<Addr>,
+    ) -> M<()> {
+        add_line(alloc, lines, &[b"server ", self.name(client), b" is"])?;
+        let expected = addr_or_none(alloc, addr)?;
+        let got = addr_or_none(alloc, asked_by(self.conn(client), self.entries))?;
+        add_both(alloc, lines, &expected, &got)
+    }
+
+    // Whether a client's connection is over, and why.
+    fn end_text(&self, alloc: Global, client: usize) -> M<Text> {
+        let conn = self.conn(client);
+        if !is_over(conn, self.entries) {
+            return Text::new(alloc, b"open");
+        }
+        match finish_of(conn, self.entries) {
+            Some(cause) => cause_text(alloc, cause),
+            None => Text::new(alloc, b"over"),
+        }
+    }
+
+    fn add_over(&self, alloc: Global, lines: &mut Texts, client: usize, cause: Cause) -> M<()> {
+        add_line(alloc, lines, &[b"client ", self.name(client), b" over"])?;
+        let expected = cause_text(alloc, cause)?;
+        add_both(alloc, lines, &expected, &self.end_text(alloc, client)?)
+    }
+
+    fn add_open(&self, alloc: Global, lines: &mut Texts, client: usize) -> M<()> {
+        add_line(alloc, lines, &[b"client ", self.name(client), b" open"])?;
+        let expected = Text::new(alloc, b"open")?;
+        add_both(alloc, lines, &expected, &self.end_text(alloc, client)?)
+    }
+
+    fn add_log(&self, alloc: Global, lines: &mut Texts, of: Option<usize>, what: &Wished) -> M<()> {
+        add_line(alloc, lines, &[b"log ", self.owner(of)])?;
+        let next = next_line(self.test.steps.as_slice(), self.came, of, self.entries);
+        let expected = wish(alloc, what)?;
+        add_both(
+            alloc,
+            lines,
+            &expected,
+            &quoted_or(alloc, next, b"nothing")?,
+        )
+    }
+
+    fn add_row(&self, alloc: Global, lines: &mut Texts, row: &WishedRow) -> M<()> {
+        let (subtable, key) = (row.subtable.as_bytes(), row.key.as_bytes());
+        let (table, name) = (quoted(alloc, subtable)?, quoted(alloc, key)?);
+        add_line(
+            alloc,
+            lines,
+            &[b"row ", table.as_bytes(), b" ", name.as_bytes()],
+        )?;
+        let told = row_told(alloc, self.rows, subtable, key, self.entries)?;
+        let expected = quoted_or(alloc, row.value.as_ref(), b"none")?;
+        add_both(
+            alloc,
+            lines,
+            &expected,
+            &quoted_or(alloc, told.as_ref(), b"none")?,
+        )
+    }
+
+    /// Adds what is told of a question that doesn't hold.
+    pub(crate) fn add_question(
+        &self,
+        alloc: Global,
+        lines: &mut Texts,
+        question: &Expectation,
+    ) -> M<()> {
+        match question {
+            Expectation::Gets { side, client, what } => {
+                self.add_gets(alloc, lines, *side, *client, what)
+            }
+            Expectation::SomeGet {
+                count,
+                clients,
+                what,
+            } => self.add_some_get(alloc, lines, *count, clients.as_slice(), what),
+            Expectation::Server { client, addr } => {
+                self.add_server(alloc, lines, *client, *addr)
+            }
+            Expectation::Over { client, cause } => self.add_over(alloc, lines, *client, *cause),
+            Expectation::Open { client } => self.add_open(alloc, lines, *client),
+            Expectation::Log { of, what } => self.add_log(alloc, lines, *of, what),
+            Expectation::Row(row) => self.add_row(alloc, lines, row),
+        }
+    }
+}
