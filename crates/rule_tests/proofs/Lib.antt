@@ -1,7 +1,3 @@
-pub mod Comes
-pub mod Cuts
-pub mod Kept
-pub mod NamedPools
 pub mod NamesTold
-pub mod Schedules
+pub mod Results
 pub mod Sources

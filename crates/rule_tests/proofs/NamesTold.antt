@@ -2,11 +2,11 @@
 use Rattle.std.proofs.Common.{◌≡◌, ℕ, List, Option}
 use Rattle.test_text.specs.declared.test_file.TestCase.{TestCase}
 use Rattle.rule_tests.specs.Named.{TellsAllNames, TellsNames, TellsNamesOf, UnnamedIn, UnnamedTold}
-use Rattle.rule_tests.specs.declared.source.TestSource.{TestSource}
-use Rattle.rule_tests.specs.declared.stop.TestStop.{TestStop}
-use Rattle.rule_tests.specs.declared.stop.TestStop.TheVariants as stop
-use Rattle.rule_tests.proofs.Comes.{At}
-use Rattle.rule_tests.proofs.Kept.{one_of}
+use Rattle.tested_runs.specs.declared.source.TestSource.{TestSource}
+use Rattle.tested_runs.specs.declared.stop.TestStop.{TestStop}
+use Rattle.tested_runs.specs.declared.stop.TestStop.TheVariants as stop
+use Rattle.tested_runs.proofs.Comes.{At}
+use Rattle.tested_runs.proofs.Kept.{one_of}
 
 pub names_of : (told : List ℕ → Option (List ℕ)) (source : TestSource) (i : ℕ) (test : TestCase) (why : TestStop)
     → At source.file.tests i test → TellsNames told source test why → TellsNamesOf told source why

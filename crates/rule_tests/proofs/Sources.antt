@@ -1,13 +1,13 @@
 -- Files that are read, one more and all.
 use Rattle.std.proofs.Common.{◌≡◌, ℕ, ◌+◌, ◌<◌, ◌≤◌, List, [], ◌∷◌, ◌++◌, Option, take, get_or, length, refl, sym, subst, ap, ◌∙◌}
 use Rattle.std.proofs.lemmas.List.{take_all, take_more}
-use Rattle.rule_tests.specs.Sources.{FileTold, IsSource, TellsSource}
+use Rattle.tested_runs.specs.Sources.{FileTold, IsSource, TellsSource}
 use Rattle.rule_tests.specs.Tests.{AreSources, TellsSources}
-use Rattle.rule_tests.specs.declared.source.TestSource.{TestSource}
-use Rattle.rule_tests.specs.declared.stop.TestStop.{TestStop}
-use Rattle.rule_tests.specs.declared.stop.TestStop.TheVariants as stop
-use Rattle.rule_tests.proofs.Comes.{At}
-use Rattle.rule_tests.proofs.Kept.{one_of}
+use Rattle.tested_runs.specs.declared.source.TestSource.{TestSource}
+use Rattle.tested_runs.specs.declared.stop.TestStop.{TestStop}
+use Rattle.tested_runs.specs.declared.stop.TestStop.TheVariants as stop
+use Rattle.tested_runs.proofs.Comes.{At}
+use Rattle.tested_runs.proofs.Kept.{one_of}
 
 abbrev Told : Type 0
 Told = List ℕ → Option (List ℕ)

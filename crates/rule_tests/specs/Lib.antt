@@ -1,7 +1,5 @@
 pub mod Named
-pub mod Names
-pub mod Runs
-pub mod Schedules
-pub mod Sources
+pub mod Places
+pub mod Results
 pub mod Tests
 pub mod Told

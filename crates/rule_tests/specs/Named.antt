@@ -3,14 +3,15 @@ use Rattle.std.specs.Prelude.{◌≡◌, ℕ, List, Option, Some, None, ⊤}
 use Rattle.std.specs.List.{All}
 use Rattle.run_config.specs.declared.config.Config.{Config}
 use Rattle.test_text.specs.declared.test_file.TestCase.{TestCase}
-use Rattle.rule_tests.specs.Names.{place_line, unnamed_of, unnamed_words}
-use Rattle.rule_tests.specs.Runs.{OneOf}
-use Rattle.rule_tests.specs.Sources.{IsConfig}
+use Rattle.test_names.specs.Names.{unnamed_of, unnamed_words}
+use Rattle.test_names.specs.declared.named.UnnamedAt.{UnnamedAt}
+use Rattle.rule_tests.specs.Places.{place_line}
+use Rattle.tested_runs.specs.Runs.{OneOf}
+use Rattle.tested_runs.specs.Sources.{IsConfig}
 use Rattle.rule_tests.specs.Tests.{config_name}
-use Rattle.rule_tests.specs.declared.named.UnnamedAt.{UnnamedAt}
-use Rattle.rule_tests.specs.declared.source.TestSource.{TestSource}
-use Rattle.rule_tests.specs.declared.stop.TestStop.{TestStop}
-use Rattle.rule_tests.specs.declared.stop.TestStop.TheVariants as stop
+use Rattle.tested_runs.specs.declared.source.TestSource.{TestSource}
+use Rattle.tested_runs.specs.declared.stop.TestStop.{TestStop}
+use Rattle.tested_runs.specs.declared.stop.TestStop.TheVariants as stop
 
 -- a place of a file is told with these words, unless memory is refused
 abbrev pub TellsPlace : TestSource → ℕ → List ℕ → TestStop → Type 0

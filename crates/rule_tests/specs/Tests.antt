@@ -4,11 +4,11 @@ use Rattle.std.specs.Str.{bytes_eq}
 use Rattle.test_plan.specs.Ways.{ways}
 use Rattle.test_text.specs.declared.deed.PlacedName.{PlacedName}
 use Rattle.test_text.specs.declared.test_file.TestCase.{TestCase}
-use Rattle.rule_tests.specs.Runs.{Come, OneOf, WaysCome, cuts_of}
-use Rattle.rule_tests.specs.Sources.{FileTold, IsSource}
-use Rattle.rule_tests.specs.declared.source.TestSource.{TestSource}
-use Rattle.rule_tests.specs.declared.stop.TestStop.{TestStop}
-use Rattle.rule_tests.specs.declared.stop.TestStop.TheVariants as stop
+use Rattle.tested_runs.specs.Runs.{Come, OneOf, WaysCome, cuts_of}
+use Rattle.tested_runs.specs.Sources.{FileTold, IsSource}
+use Rattle.tested_runs.specs.declared.source.TestSource.{TestSource}
+use Rattle.tested_runs.specs.declared.stop.TestStop.{TestStop}
+use Rattle.tested_runs.specs.declared.stop.TestStop.TheVariants as stop
 use Rattle.test_words.specs.declared.words.TestWords.{TestWords}
 
 abbrev pub is_named : Option (List ℕ) → TestCase → Bool
@@ -56,12 +56,6 @@ AreSources told names sources = ⊥
 abbrev pub TellsSources : (List ℕ → Option (List ℕ)) → List (List ℕ) → TestStop → Type 0
 TellsSources told names (stop.File line) = OneOf (λ name. FileTold told name line) names
 TellsSources told names other = ⊤
-
--- the files that the words name hold tests, all of which pass, or one of which fails
-pub record FilesCome (told : List ℕ → Option (List ℕ)) (words : TestWords) (passed : Bool) : Type 0 where
-  pub sources : List TestSource
-  pub are_sources : AreSources told words.files sources
-  pub comes : SourcesCome told words passed sources
 
 -- ---- the status
 

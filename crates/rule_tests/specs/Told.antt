@@ -6,13 +6,14 @@ use Rattle.test_plan.specs.Ways.{ways}
 use Rattle.test_text.specs.declared.test_file.TestCase.{TestCase}
 use Rattle.test_words.specs.declared.words.TestWords.{TestWords}
 use Rattle.rule_tests.specs.Named.{UnnamedIn}
-use Rattle.rule_tests.specs.Names.{place_line}
-use Rattle.rule_tests.specs.Runs.{OneOf}
-use Rattle.rule_tests.specs.Sources.{FileTold}
-use Rattle.rule_tests.specs.Tests.{AreSources, FilesCome, IsOther}
-use Rattle.rule_tests.specs.declared.source.TestSource.{TestSource}
-use Rattle.rule_tests.specs.declared.stop.TestStop.{TestStop}
-use Rattle.rule_tests.specs.declared.stop.TestStop.TheVariants as stop
+use Rattle.rule_tests.specs.Places.{place_line}
+use Rattle.tested_runs.specs.Runs.{OneOf}
+use Rattle.rule_tests.specs.Results.{Reported}
+use Rattle.tested_runs.specs.Sources.{FileTold}
+use Rattle.rule_tests.specs.Tests.{AreSources, IsOther, SourcesCome}
+use Rattle.tested_runs.specs.declared.source.TestSource.{TestSource}
+use Rattle.tested_runs.specs.declared.stop.TestStop.{TestStop}
+use Rattle.tested_runs.specs.declared.stop.TestStop.TheVariants as stop
 
 -- ---- orders
 
@@ -81,13 +82,24 @@ pub record ToldFile (told : List ℕ → Option (List ℕ)) (words : TestWords) 
   pub tells : FileLine told words line
   pub written : new ≡ told_more old line
 
+-- ---- where tests are run
+
+-- The files that the words name hold tests, all of which pass, or one of which fails; what is written is the report of
+-- those that are to be run.
+pub record FilesCome (told : List ℕ → Option (List ℕ)) (words : TestWords) (old new : Option (List ℕ)) (passed : Bool)
+    : Type 0 where
+  pub sources : List TestSource
+  pub are_sources : AreSources told words.files sources
+  pub comes : SourcesCome told words passed sources
+  pub reported : Reported told words sources old new
+
 -- ---- the status
 
 -- 0 only where all tests of the files passed, 10 only where one failed, 11 only where a file that can't be tested is told
 pub record TestedAs (told : List ℕ → Option (List ℕ)) (words : TestWords) (status : ℕ) (old new : Option (List ℕ))
     : Type 0 where
-  pub passed : status ≡ 0 → FilesCome told words true
-  pub failed : status ≡ 10 → FilesCome told words false
+  pub passed : status ≡ 0 → FilesCome told words old new true
+  pub failed : status ≡ 10 → FilesCome told words old new false
   pub told_file : status ≡ 11 → ToldFile told words old new
 
 -- The status: words that say nothing are none of these, and memory may be refused.

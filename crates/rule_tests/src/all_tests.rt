@@ -1,21 +1,24 @@
 // All tests are run.
 
-ghost use Rattle.std.specs.Prelude.{◌≡◌, ◌&&◌, IfErr, IfOk, OnOk};
 ghost use Rattle.std.specs.List.{All};
+ghost use Rattle.std.specs.Prelude.{◌≡◌, ◌&&◌, IfErr, IfOk, OnOk};
+ghost use Rattle.px_outside.specs.Outside.{told_more};
 ghost use Rattle.rule_tests.specs.Named.{AreNamed, TellsAllNames, TellsNamesOf};
-ghost use Rattle.rule_tests.specs.Tests.{AreSources, FilesCome, SourceComes, SourcesCome, TellsSources};
-ghost use Rattle.rule_tests.specs.Sources.{TellsNoFile};
-ghost use Rattle.rule_tests.specs.Told.{Quiet, TellsAllOrders, TellsFiles, TellsOfSources, TellsOrdersOf};
+ghost use Rattle.rule_tests.specs.Results.{Adds, Reported, chosen_from, chosen_of};
+ghost use Rattle.rule_tests.specs.Tests.{AreSources, SourceComes, SourcesCome, TellsSources};
+ghost use Rattle.rule_tests.specs.Told.{FilesCome, Quiet, TellsAllOrders, TellsFiles, TellsOfSources};
+ghost use Rattle.rule_tests.specs.Told.{TellsOrdersOf};
+ghost use Rattle.test_report.specs.Report.{report_text};
+ghost use Rattle.tested_runs.specs.Sources.{TellsNoFile};
 
 use crate::one_test::{check_test, run_chosen};
 use crate::say::say;
-use crate::source::{TestSource, read_source};
-use crate::stop::TestStop;
 use px_bytes::{Seq, Text};
 use px_outside::{Files, Sink};
 use std::alloc::Global;
 use test_report::{TestResult, report_text};
 use test_words::TestWords;
+use tested_runs::{TestSource, TestStop, read_source};
 
 fn read_sources<F: Files>(
     alloc: Global,
@@ -70,6 +73,8 @@ fn run_source<F: Files, S: Sink>(
 ) -> Result<bool, TestStop>
     ensures comes { IfOk result
         (λ passed. SourceComes (F.told files.old) words.now passed source.now) }
+    ensures results { OnOk result (Adds (F.told files.old) words.now
+        (chosen_from words.now source.now) results.old results.new) }
     ensures fault { IfErr result (TellsOrdersOf words.now source.now) }
     ensures same_files { F.told files.new ≡ F.told files.old }
 {
@@ -98,6 +103,8 @@ fn run_sources<F: Files, S: Sink>(
 ) -> Result<bool, TestStop>
     ensures comes { IfOk result
         (λ passed. SourcesCome (F.told files.old) words.now passed sources.now) }
+    ensures results { OnOk result (Adds (F.told files.old) words.now
+        (chosen_of words.now sources.now) results.old results.new) }
     ensures fault { IfErr result (TellsAllOrders words.now sources.now) }
     ensures same_files { F.told files.new ≡ F.told files.old }
 {
@@ -116,7 +123,9 @@ fn say_results<K: Sink>(
     results: &[TestResult],
     out: &mut K,
 ) -> Result<(), TestStop>
-    ensures { IfErr result TellsNoFile }
+    ensures written { OnOk result (K.written out.new
+        ≡ told_more (K.written out.old) (report_text words.now.shape results.now)) }
+    ensures fault { IfErr result TellsNoFile }
 {
     let text = report_text(alloc, words.shape, results)?;
     say(out, text.as_bytes())
@@ -134,6 +143,10 @@ fn run_and_say<F: Files, K: Sink, S: Sink>(
 ) -> Result<bool, TestStop>
     ensures comes { IfOk result
         (λ passed. SourcesCome (F.told files.old) words.now passed sources.now) }
+    ensures results { OnOk result (Adds (F.told files.old) words.now
+        (chosen_of words.now sources.now) results.old results.new) }
+    ensures written { OnOk result (K.written out.new
+        ≡ told_more (K.written out.old) (report_text words.now.shape results.new)) }
     ensures fault { IfErr result (TellsOfSources (F.told files.old) words.now sources.now) }
     ensures quiet { IfErr result (Quiet (K.written out.old) (K.written out.new)) }
 {
@@ -154,6 +167,8 @@ fn test_sources<F: Files, K: Sink, S: Sink>(
 ) -> Result<bool, TestStop>
     ensures comes { IfOk result
         (λ passed. SourcesCome (F.told files.old) words.now passed sources.now) }
+    ensures reported { OnOk result (Reported (F.told files.old) words.now sources.now
+        (K.written out.old) (K.written out.new)) }
     ensures fault { IfErr result (TellsOfSources (F.told files.old) words.now sources.now) }
     ensures quiet { IfErr result (Quiet (K.written out.old) (K.written out.new)) }
 {
@@ -171,7 +186,8 @@ pub(crate) fn test_files<F: Files, K: Sink, S: Sink>(
     out: &mut K,
     schedule: &mut S,
 ) -> Result<bool, TestStop>
-    ensures comes { IfOk result (FilesCome (F.told files.old) words.now) }
+    ensures comes { IfOk result (FilesCome (F.told files.old) words.now (K.written out.old)
+        (K.written out.new)) }
     ensures fault { IfErr result (TellsFiles (F.told files.old) words.now) }
     ensures quiet { IfErr result (Quiet (K.written out.old) (K.written out.new)) }
 {

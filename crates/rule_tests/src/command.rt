@@ -1,6 +1,6 @@
 // The command that tests rules.
 
-ghost use Rattle.std.specs.Prelude.{◌≡◌};
+ghost use Rattle.std.specs.Prelude.{◌≡◌, IfOk};
 ghost use Rattle.px_outside.specs.Outside.{told_more};
 ghost use Rattle.rule_tests.specs.Tests.{Ends, IsOther};
 ghost use Rattle.rule_tests.specs.Told.{SaysEnd, SaysStop, Tested};
@@ -8,12 +8,12 @@ ghost use Rattle.test_words.specs.Words.{words_of};
 
 use crate::all_tests::test_files;
 use crate::say::say;
-use crate::stop::TestStop;
 use proxy::Status;
 use px_bytes::Texts;
 use px_outside::{Files, Sink};
 use std::alloc::Global;
 use test_words::words_of;
+use tested_runs::TestStop;
 
 // The status behind a text that was said, unless that failed.
 fn said<K: Sink>(out: &mut K, text: &[u8], status: u8) -> Status
@@ -46,6 +46,7 @@ fn stopped<K: Sink>(out: &mut K, stop: TestStop) -> Status
 fn ended<K: Sink>(out: &mut K, passed: Result<bool, TestStop>) -> Status
     ensures ends { Ends passed result.0 }
     ensures told { result.0 ≡ 11 → SaysEnd passed (K.written out.old) (K.written out.new) }
+    ensures quiet { IfOk passed (λ all. K.written out.new ≡ K.written out.old) }
 {
     match passed {
         Ok(true) => Status(0),

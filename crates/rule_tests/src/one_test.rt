@@ -2,24 +2,23 @@
 
 ghost use Rattle.std.specs.Prelude.{◌≡◌, IfErr, IfOk, OnOk, Some, length};
 ghost use Rattle.rule_tests.specs.Named.{IsNamed, TellsNames, TellsPlace};
-ghost use Rattle.rule_tests.specs.Sources.{TellsNoFile};
-ghost use Rattle.rule_tests.specs.Told.{TellsOrders};
+ghost use Rattle.rule_tests.specs.Results.{Adds, IsPlaced, chosen_in};
 ghost use Rattle.rule_tests.specs.Tests.{Runs, TestComes, config_name, is_chosen};
+ghost use Rattle.rule_tests.specs.Told.{TellsOrders};
 ghost use Rattle.test_plan.specs.Ways.{ways};
+ghost use Rattle.tested_runs.specs.Sources.{TellsNoFile};
 
-use crate::named::unnamed_of;
-use crate::outcome::{TestOutcome, outcome_of};
 use crate::places::place_line;
 use crate::say::say;
-use crate::source::{TestSource, config_of};
-use crate::stop::TestStop;
 use px_bytes::{M, Seq};
 use px_outside::{Files, Sink};
 use std::alloc::Global;
+use test_names::unnamed_of;
 use test_plan::{StepOrders, ways};
 use test_report::TestResult;
 use test_text::TestCase;
 use test_words::TestWords;
+use tested_runs::{TestOutcome, TestSource, TestStop, config_of, outcome_of};
 use text_places::line_of;
 
 // Whether a test is to be run.
@@ -98,7 +97,8 @@ fn ways_of(
 
 // What a test came to, with its place.
 fn result_of(source: &TestSource, test: &TestCase, outcome: TestOutcome) -> M<TestResult>
-    ensures { IfOk result (λ told. told.passed ≡ outcome.passed) }
+    ensures passed { IfOk result (λ told. told.passed ≡ outcome.passed) }
+    ensures placed { IfOk result (IsPlaced source.now test.now) }
 {
     let (file, name) = (source.name.copy()?, test.name.copy()?);
     let TestOutcome {
@@ -133,7 +133,8 @@ fn told<S: Sink>(
     outcome: TestOutcome,
     schedule: &mut S,
 ) -> Result<TestResult, TestStop>
-    ensures told { IfOk result (λ told. told.passed ≡ outcome.passed) }
+    ensures passed { IfOk result (λ told. told.passed ≡ outcome.passed) }
+    ensures placed { IfOk result (IsPlaced source.now test.now) }
     ensures fault { IfErr result TellsNoFile }
 {
     if let Err(stop) = say_schedule(&outcome, schedule) {
@@ -153,6 +154,7 @@ fn run_test<F: Files, S: Sink>(
 ) -> Result<TestResult, TestStop>
     ensures runs { IfOk result
         (λ told. Runs (F.told files.old) words.now source.now told.passed test.now) }
+    ensures placed { IfOk result (IsPlaced source.now test.now) }
     ensures fault { IfErr result (TellsOrders words.now source.now test.now) }
     ensures same_files { F.told files.new ≡ F.told files.old }
 {
@@ -175,6 +177,8 @@ pub(crate) fn run_chosen<F: Files, S: Sink>(
 ) -> Result<bool, TestStop>
     ensures comes { IfOk result
         (λ passed. TestComes (F.told files.old) words.now source.now passed test.now) }
+    ensures results { OnOk result (Adds (F.told files.old) words.now
+        (chosen_in words.now source.now test.now) results.old results.new) }
     ensures fault { IfErr result (TellsOrders words.now source.now test.now) }
     ensures same_files { F.told files.new ≡ F.told files.old }
 {

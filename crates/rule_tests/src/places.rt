@@ -1,7 +1,7 @@
 // Where something stands in a test file.
 
 ghost use Rattle.std.specs.Prelude.{◌≡◌, IfOk};
-ghost use Rattle.rule_tests.specs.Names.{place_line};
+ghost use Rattle.rule_tests.specs.Places.{place_line};
 
 use px_bytes::{M, Text};
 use std::alloc::Global;

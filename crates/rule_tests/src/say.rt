@@ -2,10 +2,10 @@
 
 ghost use Rattle.std.specs.Prelude.{◌≡◌, IfErr, OnOk};
 ghost use Rattle.px_outside.specs.Outside.{told_more};
-ghost use Rattle.rule_tests.specs.Sources.{TellsNoFile};
+ghost use Rattle.tested_runs.specs.Sources.{TellsNoFile};
 
-use crate::stop::TestStop;
 use px_outside::{Failed, Sink, write_all};
+use tested_runs::TestStop;
 
 /// Says a text.
 pub(crate) fn say<K: Sink>(out: &mut K, text: &[u8]) -> Result<(), TestStop>

@@ -1,7 +1,7 @@
 use Rattle.std.proofs.Common.{rules, ◌≡◌}
 use Rattle.test_text.specs.declared.test_file.TestCase.{TestCase}
 use Rattle.rule_tests.specs.Named.{IsNamed}
-use Rattle.rule_tests.proofs.Comes.{all_next, all_whole, at_of, end_of}
+use Rattle.tested_runs.proofs.Comes.{all_next, all_whole, at_of, end_of}
 use Rattle.rule_tests.proofs.all_tests.check_source.Goals as goal
 
 pub loop-test-preserved : goal.loop-test-preserved

@@ -1,7 +1,7 @@
 use Rattle.std.proofs.Common.{rules, ◌≡◌}
 use Rattle.rule_tests.specs.Named.{AreNamed}
-use Rattle.rule_tests.specs.declared.source.TestSource.{TestSource}
-use Rattle.rule_tests.proofs.Comes.{all_next, all_whole}
+use Rattle.tested_runs.specs.declared.source.TestSource.{TestSource}
+use Rattle.tested_runs.proofs.Comes.{all_next, all_whole}
 use Rattle.rule_tests.proofs.all_tests.check_sources.Goals as goal
 
 pub loop-source-preserved : goal.loop-source-preserved

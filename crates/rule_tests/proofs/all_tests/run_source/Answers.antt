@@ -1,18 +1,31 @@
 use Rattle.std.proofs.Common.{rules, ◌≡◌}
 use Rattle.test_text.specs.declared.test_file.TestCase.{TestCase}
+use Rattle.rule_tests.specs.Results.{chosen_in}
 use Rattle.rule_tests.specs.Tests.{TestComes}
-use Rattle.rule_tests.proofs.Comes.{at_of, end_of, ends, next_by}
+use Rattle.tested_runs.proofs.Comes.{At, at_of, end_of, ends, next_by}
+use Rattle.rule_tests.proofs.Results.{adds_all, adds_next, adds_none}
 use Rattle.rule_tests.proofs.all_tests.run_source.Goals as goal
+
+pub loop-test-init : goal.loop-test-init
+loop-test-init g c = record {
+  far = tt;
+  results = adds_none (g.F.Files.told c.args.files.now) c.args.words.now c.args.results.now;
+  same_files = search rules;
+}
 
 pub loop-test-preserved : goal.loop-test-preserved
 loop-test-preserved g c =
-    let same = c.as_slice-test-items.ensures in record {
+    let at : At c.args.source.now.file.tests c.loop-test.test-index c.test-item.result =
+    at_of TestCase c.as_slice-test-items.result.now c.args.source.now.file.tests c.loop-test.test-index c.test-item.result
+    c.as_slice-test-items.ensures c.loop-test-test.true c.test-item.is in record {
       far = next_by (λ told. TestComes told c.args.words.now c.args.source.now) (g.F.Files.told c.loop-test.files)
           (g.F.Files.told c.args.files.now) c.args.source.now.file.tests c.loop-test.test-index c.test-item.result c.loop-test.all
-          c.in_ok-passed.passed c.both-all.result c.loop-test.invariant.same_files c.both-all.ensures
-          (at_of TestCase c.as_slice-test-items.result.now c.args.source.now.file.tests c.loop-test.test-index c.test-item.result same
-          c.loop-test-test.true c.test-item.is)
-          c.loop-test.invariant.far c.in_ok-passed.ensures.comes;
+          c.in_ok-passed.passed c.both-all.result c.loop-test.invariant.same_files c.both-all.ensures at c.loop-test.invariant.far
+          c.in_ok-passed.ensures.comes;
+      results = adds_next TestCase (chosen_in c.args.words.now c.args.source.now) (g.F.Files.told c.loop-test.files)
+          (g.F.Files.told c.args.files.now) c.args.words.now c.args.source.now.file.tests c.loop-test.test-index c.test-item.result
+          c.args.results.now c.loop-test.results c.run_chosen.new.results c.loop-test.invariant.same_files at
+          c.loop-test.invariant.results c.in_ok-passed.ensures.results;
       same_files = search rules;
     }
 
@@ -23,3 +36,11 @@ returns-clause-comes g c =
     (end_of TestCase c.as_slice-test-items.result.now c.args.source.now.file.tests c.loop-test.test-index c.as_slice-test-items.ensures
     c.loop-test-test.false)
     c.loop-test.invariant.far
+
+pub returns-clause-results : goal.returns-clause-results
+returns-clause-results g c =
+    adds_all TestCase (chosen_in c.args.words.now c.args.source.now) (g.F.Files.told c.args.files.now) c.args.words.now
+    c.args.source.now.file.tests c.loop-test.test-index c.args.results.now c.loop-test.results
+    (end_of TestCase c.as_slice-test-items.result.now c.args.source.now.file.tests c.loop-test.test-index c.as_slice-test-items.ensures
+    c.loop-test-test.false)
+    c.loop-test.invariant.results

@@ -1,6 +1,0 @@
-use Rattle.std.proofs.Common.{◌≡◌, drop}
-use Rattle.rule_tests.specs.Names as names
-use Rattle.rule_tests.proofs.named.unnamed_of.Given as goal
-
-abbrev pub invariant-loop-placed : goal.invariant-loop-placed
-invariant-loop-placed l = names.unnamed_of l.config (drop l.placed-index l.steps) ≡ names.unnamed_of l.config l.steps
