@@ -23,10 +23,16 @@ runs_text r = if r.passed then joined (codes "  (" ∷ decimal r.runs ∷ runs_w
 abbrev pub plain_head : Bool → List ℕ
 plain_head passed = if passed then codes "ok   " else codes "FAIL "
 
+abbrev pub plain_place : TestResult → List ℕ
+plain_place r = joined (ascii r.file ∷ codes ":" ∷ decimal r.line ∷ [])
+
+abbrev pub plain_line : TestResult → List ℕ
+plain_line r = joined (
+    plain_head r.passed ∷ plain_place r ∷ codes "  " ∷ ascii r.name ∷ runs_text r ∷ codes "\n" ∷ [])
+
+-- its line, with those of its failure behind it
 abbrev pub plain_one : TestResult → List ℕ
-plain_one r = joined (
-    plain_head r.passed ∷ ascii r.file ∷ codes ":" ∷ decimal r.line ∷ codes "  " ∷ ascii r.name ∷ runs_text r
-    ∷ codes "\n" ∷ ascii_lines (codes "  ") r.failure ∷ [])
+plain_one r = joined (plain_line r ∷ ascii_lines (codes "  ") r.failure ∷ [])
 
 abbrev pub plain_all : List TestResult → List ℕ
 plain_all rs = flat_map plain_one rs
@@ -47,10 +53,15 @@ tap_name name = flat_map tap_byte (ascii name)
 abbrev pub tap_head : Bool → List ℕ
 tap_head passed = if passed then codes "ok " else codes "not ok "
 
+abbrev pub tap_place : TestResult → List ℕ
+tap_place r = joined (tap_name r.file ∷ codes ":" ∷ decimal r.line ∷ [])
+
+abbrev pub tap_line : ℕ → TestResult → List ℕ
+tap_line number r = joined (
+    tap_head r.passed ∷ decimal number ∷ codes " - " ∷ tap_place r ∷ codes " " ∷ tap_name r.name ∷ codes "\n" ∷ [])
+
 abbrev pub tap_one : ℕ → TestResult → List ℕ
-tap_one number r = joined (
-    tap_head r.passed ∷ decimal number ∷ codes " - " ∷ tap_name r.file ∷ codes ":" ∷ decimal r.line ∷ codes " "
-    ∷ tap_name r.name ∷ codes "\n" ∷ ascii_lines (codes "# ") r.failure ∷ [])
+tap_one number r = joined (tap_line number r ∷ ascii_lines (codes "# ") r.failure ∷ [])
 
 -- numbered from here on
 abbrev pub tap_from : ℕ → List TestResult → List ℕ

@@ -1,8 +1,8 @@
 // The plain report.
 
 ghost use Rattle.std.specs.Prelude.{◌≡◌, IfOk};
-ghost use Rattle.test_report.specs.Report.{failures, plain_all, plain_head, plain_one, plain_text};
-ghost use Rattle.test_report.specs.Report.{runs_text, runs_word};
+ghost use Rattle.test_report.specs.Report.{failures, plain_all, plain_head, plain_line, plain_one};
+ghost use Rattle.test_report.specs.Report.{plain_place, plain_text, runs_text, runs_word};
 
 use crate::ascii::{ascii, ascii_lines};
 use crate::joined::{joined, print_number};
@@ -39,28 +39,39 @@ fn plain_head(passed: bool) -> &'static [u8]
     if passed { b"ok   " } else { b"FAIL " }
 }
 
-fn plain_one(alloc: Global, one: &TestResult) -> M<Text>
-    ensures { IfOk result (λ text. text ≡ plain_one one.now) }
+fn plain_place(alloc: Global, one: &TestResult) -> M<Text>
+    ensures { IfOk result (λ text. text ≡ plain_place one.now) }
 {
     let file = ascii(alloc, one.file.as_bytes())?;
     let line = print_number(alloc, one.line)?;
+    joined(alloc, &[file.as_bytes(), b":", line.as_bytes()])
+}
+
+fn plain_line(alloc: Global, one: &TestResult) -> M<Text>
+    ensures { IfOk result (λ text. text ≡ plain_line one.now) }
+{
+    let place = plain_place(alloc, one)?;
     let name = ascii(alloc, one.name.as_bytes())?;
     let runs = runs_text(alloc, one)?;
-    let failure = ascii_lines(alloc, b"  ", one.failure.as_slice())?;
     joined(
         alloc,
         &[
             plain_head(one.passed),
-            file.as_bytes(),
-            b":",
-            line.as_bytes(),
+            place.as_bytes(),
             b"  ",
             name.as_bytes(),
             runs.as_bytes(),
             b"\n",
-            failure.as_bytes(),
         ],
     )
+}
+
+fn plain_one(alloc: Global, one: &TestResult) -> M<Text>
+    ensures { IfOk result (λ text. text ≡ plain_one one.now) }
+{
+    let line = plain_line(alloc, one)?;
+    let failure = ascii_lines(alloc, b"  ", one.failure.as_slice())?;
+    joined(alloc, &[line.as_bytes(), failure.as_bytes()])
 }
 
 fn plain_all(alloc: Global, results: &[TestResult]) -> M<Text>

@@ -1,7 +1,8 @@
 // The report as TAP.
 
 ghost use Rattle.std.specs.Prelude.{◌≡◌, IfOk, flat_map};
-ghost use Rattle.test_report.specs.Report.{tap_byte, tap_from, tap_head, tap_name, tap_one, tap_text};
+ghost use Rattle.test_report.specs.Report.{tap_byte, tap_from, tap_head, tap_line, tap_name};
+ghost use Rattle.test_report.specs.Report.{tap_one, tap_place, tap_text};
 
 use crate::ascii::{ascii, ascii_lines};
 use crate::joined::{joined, print_number};
@@ -42,29 +43,40 @@ fn tap_head(passed: bool) -> &'static [u8]
     if passed { b"ok " } else { b"not ok " }
 }
 
-fn tap_one(alloc: Global, number: usize, one: &TestResult) -> M<Text>
-    ensures { IfOk result (λ text. text ≡ tap_one number one.now) }
+fn tap_place(alloc: Global, one: &TestResult) -> M<Text>
+    ensures { IfOk result (λ text. text ≡ tap_place one.now) }
 {
-    let number = print_number(alloc, number)?;
     let file = tap_name(alloc, one.file.as_bytes())?;
     let line = print_number(alloc, one.line)?;
+    joined(alloc, &[file.as_bytes(), b":", line.as_bytes()])
+}
+
+fn tap_line(alloc: Global, number: usize, one: &TestResult) -> M<Text>
+    ensures { IfOk result (λ text. text ≡ tap_line number one.now) }
+{
+    let number = print_number(alloc, number)?;
+    let place = tap_place(alloc, one)?;
     let name = tap_name(alloc, one.name.as_bytes())?;
-    let failure = ascii_lines(alloc, b"# ", one.failure.as_slice())?;
     joined(
         alloc,
         &[
             tap_head(one.passed),
             number.as_bytes(),
             b" - ",
-            file.as_bytes(),
-            b":",
-            line.as_bytes(),
+            place.as_bytes(),
             b" ",
             name.as_bytes(),
             b"\n",
-            failure.as_bytes(),
         ],
     )
+}
+
+fn tap_one(alloc: Global, number: usize, one: &TestResult) -> M<Text>
+    ensures { IfOk result (λ text. text ≡ tap_one number one.now) }
+{
+    let line = tap_line(alloc, number, one)?;
+    let failure = ascii_lines(alloc, b"# ", one.failure.as_slice())?;
+    joined(alloc, &[line.as_bytes(), failure.as_bytes()])
 }
 
 // A line for each test, from number 1 on.
