@@ -85,24 +85,25 @@ pub record ToldFile (told : List ℕ → Option (List ℕ)) (words : TestWords) 
 -- ---- where tests are run
 
 -- The files that the words name hold tests, all of which pass, or one of which fails; what is written is the report of
--- those that are to be run.
-pub record FilesCome (told : List ℕ → Option (List ℕ)) (words : TestWords) (old new : Option (List ℕ)) (passed : Bool)
-    : Type 0 where
+-- those that are to be run, and a schedule of each.
+pub record FilesCome (told : List ℕ → Option (List ℕ)) (words : TestWords) (before after old new : Option (List ℕ))
+    (passed : Bool) : Type 0 where
   pub sources : List TestSource
   pub are_sources : AreSources told words.files sources
   pub comes : SourcesCome told words passed sources
-  pub reported : Reported told words sources old new
+  pub reported : Reported told words sources before after old new
 
 -- ---- the status
 
 -- 0 only where all tests of the files passed, 10 only where one failed, 11 only where a file that can't be tested is told
-pub record TestedAs (told : List ℕ → Option (List ℕ)) (words : TestWords) (status : ℕ) (old new : Option (List ℕ))
-    : Type 0 where
-  pub passed : status ≡ 0 → FilesCome told words old new true
-  pub failed : status ≡ 10 → FilesCome told words old new false
+pub record TestedAs (told : List ℕ → Option (List ℕ)) (words : TestWords) (status : ℕ)
+    (before after old new : Option (List ℕ)) : Type 0 where
+  pub passed : status ≡ 0 → FilesCome told words before after old new true
+  pub failed : status ≡ 10 → FilesCome told words before after old new false
   pub told_file : status ≡ 11 → ToldFile told words old new
 
 -- The status: words that say nothing are none of these, and memory may be refused.
-abbrev pub Tested : (List ℕ → Option (List ℕ)) → Option TestWords → (status : ℕ) → (old new : Option (List ℕ)) → Type 0
-Tested told None status old new = IsOther status
-Tested told (Some words) status old new = TestedAs told words status old new
+abbrev pub Tested : (List ℕ → Option (List ℕ)) → Option TestWords → (status : ℕ) → (before after old new : Option (List ℕ))
+    → Type 0
+Tested told None status before after old new = IsOther status
+Tested told (Some words) status before after old new = TestedAs told words status before after old new

@@ -74,7 +74,8 @@ fn run_source<F: Files, S: Sink>(
     ensures comes { IfOk result
         (λ passed. SourceComes (F.told files.old) words.now passed source.now) }
     ensures results { OnOk result (Adds (F.told files.old) words.now
-        (chosen_from words.now source.now) results.old results.new) }
+        (chosen_from words.now source.now) results.old results.new (S.written schedule.old)
+        (S.written schedule.new)) }
     ensures fault { IfErr result (TellsOrdersOf words.now source.now) }
     ensures same_files { F.told files.new ≡ F.told files.old }
 {
@@ -104,7 +105,8 @@ fn run_sources<F: Files, S: Sink>(
     ensures comes { IfOk result
         (λ passed. SourcesCome (F.told files.old) words.now passed sources.now) }
     ensures results { OnOk result (Adds (F.told files.old) words.now
-        (chosen_of words.now sources.now) results.old results.new) }
+        (chosen_of words.now sources.now) results.old results.new (S.written schedule.old)
+        (S.written schedule.new)) }
     ensures fault { IfErr result (TellsAllOrders words.now sources.now) }
     ensures same_files { F.told files.new ≡ F.told files.old }
 {
@@ -144,7 +146,8 @@ fn run_and_say<F: Files, K: Sink, S: Sink>(
     ensures comes { IfOk result
         (λ passed. SourcesCome (F.told files.old) words.now passed sources.now) }
     ensures results { OnOk result (Adds (F.told files.old) words.now
-        (chosen_of words.now sources.now) results.old results.new) }
+        (chosen_of words.now sources.now) results.old results.new (S.written schedule.old)
+        (S.written schedule.new)) }
     ensures written { OnOk result (K.written out.new
         ≡ told_more (K.written out.old) (report_text words.now.shape results.new)) }
     ensures fault { IfErr result (TellsOfSources (F.told files.old) words.now sources.now) }
@@ -168,7 +171,8 @@ fn test_sources<F: Files, K: Sink, S: Sink>(
     ensures comes { IfOk result
         (λ passed. SourcesCome (F.told files.old) words.now passed sources.now) }
     ensures reported { OnOk result (Reported (F.told files.old) words.now sources.now
-        (K.written out.old) (K.written out.new)) }
+        (S.written schedule.old) (S.written schedule.new) (K.written out.old)
+        (K.written out.new)) }
     ensures fault { IfErr result (TellsOfSources (F.told files.old) words.now sources.now) }
     ensures quiet { IfErr result (Quiet (K.written out.old) (K.written out.new)) }
 {
@@ -186,7 +190,8 @@ pub(crate) fn test_files<F: Files, K: Sink, S: Sink>(
     out: &mut K,
     schedule: &mut S,
 ) -> Result<bool, TestStop>
-    ensures comes { IfOk result (FilesCome (F.told files.old) words.now (K.written out.old)
+    ensures comes { IfOk result (FilesCome (F.told files.old) words.now
+        (S.written schedule.old) (S.written schedule.new) (K.written out.old)
         (K.written out.new)) }
     ensures fault { IfErr result (TellsFiles (F.told files.old) words.now) }
     ensures quiet { IfErr result (Quiet (K.written out.old) (K.written out.new)) }

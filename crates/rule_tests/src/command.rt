@@ -63,8 +63,8 @@ pub fn test_command<F: Files, K: Sink, S: Sink>(
     out: &mut K,
     schedule: &mut S,
 ) -> Status
-    ensures { Tested (F.told files.old) (words_of words.now) result.0 (K.written out.old)
-        (K.written out.new) }
+    ensures { Tested (F.told files.old) (words_of words.now) result.0 (S.written schedule.old)
+        (S.written schedule.new) (K.written out.old) (K.written out.new) }
 {
     match words_of(alloc, words.as_slice()) {
         Ok(Some(said)) => {

@@ -2,8 +2,8 @@
 
 ghost use Rattle.std.specs.Prelude.{◌≡◌, IfErr, IfOk, OnOk, Some, length};
 ghost use Rattle.rule_tests.specs.Named.{IsNamed, TellsNames, TellsPlace};
-ghost use Rattle.rule_tests.specs.Results.{Adds, IsPlaced, chosen_in};
-ghost use Rattle.rule_tests.specs.Tests.{Runs, TestComes, config_name, is_chosen};
+ghost use Rattle.rule_tests.specs.Results.{Adds, IsPlaced, IsResult, chosen_in, told_schedule};
+ghost use Rattle.rule_tests.specs.Tests.{TestComes, config_name, is_chosen};
 ghost use Rattle.rule_tests.specs.Told.{TellsOrders};
 ghost use Rattle.test_plan.specs.Ways.{ways};
 ghost use Rattle.tested_runs.specs.Sources.{TellsNoFile};
@@ -118,7 +118,9 @@ fn result_of(source: &TestSource, test: &TestCase, outcome: TestOutcome) -> M<Te
 }
 
 fn say_schedule<S: Sink>(outcome: &TestOutcome, schedule: &mut S) -> Result<(), TestStop>
-    ensures { IfErr result TellsNoFile }
+    ensures written { OnOk result (S.written schedule.new
+        ≡ told_schedule (S.written schedule.old) outcome.now.schedule) }
+    ensures fault { IfErr result TellsNoFile }
 {
     match &outcome.schedule {
         Some(events) => say(schedule, events.as_bytes()),
@@ -135,6 +137,8 @@ fn told<S: Sink>(
 ) -> Result<TestResult, TestStop>
     ensures passed { IfOk result (λ told. told.passed ≡ outcome.passed) }
     ensures placed { IfOk result (IsPlaced source.now test.now) }
+    ensures written { OnOk result (S.written schedule.new
+        ≡ told_schedule (S.written schedule.old) outcome.schedule) }
     ensures fault { IfErr result TellsNoFile }
 {
     if let Err(stop) = say_schedule(&outcome, schedule) {
@@ -152,9 +156,8 @@ fn run_test<F: Files, S: Sink>(
     test: &TestCase,
     schedule: &mut S,
 ) -> Result<TestResult, TestStop>
-    ensures runs { IfOk result
-        (λ told. Runs (F.told files.old) words.now source.now told.passed test.now) }
-    ensures placed { IfOk result (IsPlaced source.now test.now) }
+    ensures told { IfOk result (λ told. IsResult (F.told files.old) words.now source.now test.now
+        told (S.written schedule.old) (S.written schedule.new)) }
     ensures fault { IfErr result (TellsOrders words.now source.now test.now) }
     ensures same_files { F.told files.new ≡ F.told files.old }
 {
@@ -178,7 +181,8 @@ pub(crate) fn run_chosen<F: Files, S: Sink>(
     ensures comes { IfOk result
         (λ passed. TestComes (F.told files.old) words.now source.now passed test.now) }
     ensures results { OnOk result (Adds (F.told files.old) words.now
-        (chosen_in words.now source.now test.now) results.old results.new) }
+        (chosen_in words.now source.now test.now) results.old results.new
+        (S.written schedule.old) (S.written schedule.new)) }
     ensures fault { IfErr result (TellsOrders words.now source.now test.now) }
     ensures same_files { F.told files.new ≡ F.told files.old }
 {

@@ -43,9 +43,9 @@ plain_text rs = joined (
 
 -- ---- TAP
 
--- in a name `#` begins a directive, unless it stands behind a backslash
+-- In a name `#` begins a directive, unless it stands behind a backslash, and so does a backslash that is one (TAP 14).
 abbrev pub tap_byte : ℕ → List ℕ
-tap_byte byte = if byte == 35 then codes "\\#" else byte ∷ []
+tap_byte byte = if byte == 35 then codes "\\#" else (if byte == 92 then codes "\\\\" else byte ∷ [])
 
 abbrev pub tap_name : List ℕ → List ℕ
 tap_name name = flat_map tap_byte (ascii name)

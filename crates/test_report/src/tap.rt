@@ -13,10 +13,11 @@ use std::alloc::Global;
 fn tap_byte(alloc: Global, byte: u8) -> M<Text>
     ensures { IfOk result (λ text. text ≡ tap_byte byte) }
 {
-    if byte == b'#' {
-        return Text::new(alloc, b"\\#");
+    match byte {
+        b'#' => Text::new(alloc, b"\\#"),
+        b'\\' => Text::new(alloc, b"\\\\"),
+        _ => Text::new(alloc, &[byte]),
     }
-    Text::new(alloc, &[byte])
 }
 
 fn escaped(alloc: Global, bytes: &[u8]) -> M<Text>

@@ -1,6 +1,7 @@
 // What all runs of a test come to.
 
-ghost use Rattle.std.specs.Prelude.{◌≡◌, IfErr, IfOk, IfSome, None, OnOk, false, true};
+ghost use Rattle.std.specs.Prelude.{◌≡◌, ◌<◌, IfErr, IfOk, IfSome, IsSome, None, OnOk, false};
+ghost use Rattle.std.specs.Prelude.{length, true};
 ghost use Rattle.tested_runs.specs.Runs.{CutsCome, RunComes, WaysCome, cuts_of, is_passed};
 ghost use Rattle.tested_runs.specs.Schedules.{CutTold, Keeps, RunTold, Tells, WayTold, schedule_in};
 ghost use Rattle.tested_runs.specs.Sources.{TellsNoFile};
@@ -50,6 +51,7 @@ impl TestOutcome {
     // Keeps the schedule of a run, if it is the first one or failed.
     fn keep(&mut self, alloc: Global, passed: bool, run: &JudgedRun) -> M<()>
         ensures same { self.new.passed ≡ self.old.passed }
+        ensures there { OnOk result (IsSome self.new.schedule) }
         ensures schedule { OnOk result
             (Keeps passed self.old.schedule self.new.schedule (schedule_in run.now)) }
     {
@@ -76,6 +78,7 @@ impl TestOutcome {
             (λ passed. self.old.passed ≡ true → self.new.passed ≡ passed) }
         ensures schedule { IfOk result (λ passed.
             Keeps passed self.old.schedule self.new.schedule (schedule_in run.now)) }
+        ensures there { OnOk result (IsSome self.new.schedule) }
     {
         let passed = is_passed(run.verdict);
         self.keep(alloc, passed, run)?;
@@ -102,6 +105,7 @@ impl TestOutcome {
         ensures schedule { IfOk result (λ passed. Tells passed self.old.schedule
             self.new.schedule (λ text. RunTold (F.told files.old) config.now test.now.steps
             way.entry.orders.now passed text way.entry.cut)) }
+        ensures there { OnOk result (IsSome self.new.schedule) }
         ensures fault { IfErr result TellsNoFile }
         ensures same_files { F.told files.new ≡ F.told files.old }
     {
@@ -129,6 +133,7 @@ impl TestOutcome {
         ensures schedule { IfOk result (λ passed. Tells passed self.old.schedule
             self.new.schedule (CutTold (F.told files.old) config.now test.now.steps cuts.now
             orders.now passed)) }
+        ensures there { OnOk result (0 < length cuts.now → IsSome self.new.schedule) }
         ensures fault { IfErr result TellsNoFile }
         ensures same_files { F.told files.new ≡ F.told files.old }
     {
@@ -158,6 +163,8 @@ impl TestOutcome {
         ensures schedule { IfOk result (λ passed. Tells passed self.old.schedule
             self.new.schedule (WayTold (F.told files.old) config.now test.now.steps cuts.now
             ways.now passed)) }
+        ensures there { OnOk result
+            (0 < length cuts.now → 0 < length ways.now → IsSome self.new.schedule) }
         ensures fault { IfErr result TellsNoFile }
         ensures same_files { F.told files.new ≡ F.told files.old }
     {
@@ -184,6 +191,7 @@ pub fn outcome_of<F: Files>(
     ensures schedule { IfOk result (λ outcome. IfSome outcome.schedule (WayTold
         (F.told files.old) config.now test.now.steps (cuts_of all_cuts test.now.steps) ways.now
         outcome.passed)) }
+    ensures there { IfOk result (λ outcome. 0 < length ways.now → IsSome outcome.schedule) }
     ensures fault { IfErr result TellsNoFile }
     ensures same_files { F.told files.new ≡ F.told files.old }
 {

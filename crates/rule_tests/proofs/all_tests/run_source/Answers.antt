@@ -9,7 +9,7 @@ use Rattle.rule_tests.proofs.all_tests.run_source.Goals as goal
 pub loop-test-init : goal.loop-test-init
 loop-test-init g c = record {
   far = tt;
-  results = adds_none (g.F.Files.told c.args.files.now) c.args.words.now c.args.results.now;
+  results = adds_none (g.F.Files.told c.args.files.now) c.args.words.now c.args.results.now (g.S.Sink.written c.args.schedule.now);
   same_files = search rules;
 }
 
@@ -24,7 +24,8 @@ loop-test-preserved g c =
           c.in_ok-passed.ensures.comes;
       results = adds_next TestCase (chosen_in c.args.words.now c.args.source.now) (g.F.Files.told c.loop-test.files)
           (g.F.Files.told c.args.files.now) c.args.words.now c.args.source.now.file.tests c.loop-test.test-index c.test-item.result
-          c.args.results.now c.loop-test.results c.run_chosen.new.results c.loop-test.invariant.same_files at
+          c.args.results.now c.loop-test.results c.run_chosen.new.results (g.S.Sink.written c.args.schedule.now)
+          (g.S.Sink.written c.loop-test.schedule) (g.S.Sink.written c.run_chosen.new.schedule) c.loop-test.invariant.same_files at
           c.loop-test.invariant.results c.in_ok-passed.ensures.results;
       same_files = search rules;
     }
@@ -40,7 +41,8 @@ returns-clause-comes g c =
 pub returns-clause-results : goal.returns-clause-results
 returns-clause-results g c =
     adds_all TestCase (chosen_in c.args.words.now c.args.source.now) (g.F.Files.told c.args.files.now) c.args.words.now
-    c.args.source.now.file.tests c.loop-test.test-index c.args.results.now c.loop-test.results
+    c.args.source.now.file.tests c.loop-test.test-index c.args.results.now c.loop-test.results (g.S.Sink.written c.args.schedule.now)
+    (g.S.Sink.written c.loop-test.schedule)
     (end_of TestCase c.as_slice-test-items.result.now c.args.source.now.file.tests c.loop-test.test-index c.as_slice-test-items.ensures
     c.loop-test-test.false)
     c.loop-test.invariant.results

@@ -9,7 +9,7 @@ use Rattle.rule_tests.proofs.all_tests.run_sources.Goals as goal
 pub loop-source-init : goal.loop-source-init
 loop-source-init g c = record {
   far = tt;
-  results = adds_none (g.F.Files.told c.args.files.now) c.args.words.now c.args.results.now;
+  results = adds_none (g.F.Files.told c.args.files.now) c.args.words.now c.args.results.now (g.S.Sink.written c.args.schedule.now);
   same_files = search rules;
 }
 
@@ -22,7 +22,8 @@ loop-source-preserved g c =
           c.loop-source.invariant.same_files c.both-all.ensures at c.loop-source.invariant.far c.in_ok-passed.ensures.comes;
       results = adds_next TestSource (chosen_from c.args.words.now) (g.F.Files.told c.loop-source.files)
           (g.F.Files.told c.args.files.now) c.args.words.now c.args.sources.now c.loop-source.source-index c.source-item.result
-          c.args.results.now c.loop-source.results c.run_source.new.results c.loop-source.invariant.same_files at
+          c.args.results.now c.loop-source.results c.run_source.new.results (g.S.Sink.written c.args.schedule.now)
+          (g.S.Sink.written c.loop-source.schedule) (g.S.Sink.written c.run_source.new.schedule) c.loop-source.invariant.same_files at
           c.loop-source.invariant.results c.in_ok-passed.ensures.results;
       same_files = search rules;
     }
@@ -35,4 +36,5 @@ returns-clause-comes g c =
 pub returns-clause-results : goal.returns-clause-results
 returns-clause-results g c =
     adds_all TestSource (chosen_from c.args.words.now) (g.F.Files.told c.args.files.now) c.args.words.now c.args.sources.now
-    c.loop-source.source-index c.args.results.now c.loop-source.results c.loop-source-test.false c.loop-source.invariant.results
+    c.loop-source.source-index c.args.results.now c.loop-source.results (g.S.Sink.written c.args.schedule.now)
+    (g.S.Sink.written c.loop-source.schedule) c.loop-source-test.false c.loop-source.invariant.results

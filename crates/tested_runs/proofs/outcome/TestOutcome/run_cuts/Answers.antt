@@ -1,4 +1,4 @@
-use Rattle.std.proofs.Common.{rules, ◌≡◌, true, false}
+use Rattle.std.proofs.Common.{rules, arith, ◌≡◌, true, false}
 use Rattle.tested_runs.specs.Runs.{RunComes}
 use Rattle.tested_runs.proofs.Comes.{ends}
 use Rattle.tested_runs.proofs.Cuts.{all_pass, kept_cut, told_cut}
@@ -22,6 +22,7 @@ loop-cut-preserved g c =
       schedule = kept_cut _ _ c.args.config.now c.args.test.now.steps c.args.orders.now c.args.cuts.now c.loop-cut.cut-index _
           c.in_ok-run_way.field-0 c.args.self.now.schedule c.loop-cut.self.schedule c.run_way.new.self.schedule
           c.loop-cut.invariant.same_files passed c.loop-cut-test.true c.loop-cut.invariant.schedule c.in_ok-run_way.ensures.schedule;
+      there = λ more. c.in_ok-run_way.ensures.there;
       same_files = search rules;
     }
 
@@ -29,3 +30,6 @@ pub returns-clause-comes : goal.returns-clause-comes
 returns-clause-comes g c =
     ends (RunComes (g.F.Files.told c.args.files.now) c.args.config.now c.args.test.now.steps c.args.orders.now) c.args.cuts.now
     c.loop-cut.cut-index true c.loop-cut-test.false c.loop-cut.invariant.passed
+
+pub returns-clause-there : goal.returns-clause-there
+returns-clause-there g c more = c.loop-cut.invariant.there (omega (arith, more, c.loop-cut-test.false))

@@ -1,4 +1,4 @@
-use Rattle.std.proofs.Common.{◌≡◌, true, take}
+use Rattle.std.proofs.Common.{◌≡◌, ◌<◌, IsSome, true, take}
 use Rattle.std.specs.List.{All}
 use Rattle.tested_runs.specs.Runs.{RunComes}
 use Rattle.tested_runs.specs.Schedules.{CutTold}
@@ -11,5 +11,6 @@ invariant-loop-cut g l = record {
   kept : l.fn.self.passed ≡ true → l.self.passed ≡ true;
   schedule : Kept l.fn.self.schedule l.self.schedule
       (CutTold (g.F.Files.told l.fn.files) l.config l.test.steps l.cuts l.orders true);
+  there : 0 < l.cut-index → IsSome l.self.schedule;
   same_files : g.F.Files.told l.files ≡ g.F.Files.told l.fn.files;
 }

@@ -1,4 +1,4 @@
-use Rattle.std.proofs.Common.{◌≡◌, true, take}
+use Rattle.std.proofs.Common.{◌≡◌, ◌<◌, IsSome, length, true, take}
 use Rattle.std.specs.List.{All}
 use Rattle.tested_runs.specs.Runs.{CutsCome}
 use Rattle.tested_runs.specs.Schedules.{WayTold}
@@ -11,5 +11,6 @@ invariant-loop-orders g l = record {
   kept : l.fn.self.passed ≡ true → l.self.passed ≡ true;
   schedule : Kept l.fn.self.schedule l.self.schedule
       (WayTold (g.F.Files.told l.fn.files) l.config l.test.steps l.cuts l.ways true);
+  there : 0 < length l.cuts → 0 < l.orders-index → IsSome l.self.schedule;
   same_files : g.F.Files.told l.files ≡ g.F.Files.told l.fn.files;
 }
