@@ -1,17 +1,46 @@
 -- Results that are added, of one more test and of all.
-use Rattle.std.proofs.Common.{◌≡◌, ℕ, ◌+◌, ◌≤◌, true, false, List, [], ◌∷◌, ◌++◌, Option, ap, append-nil, append_assoc, flat_map, length, refl, subst, sym, take, ◌∙◌, if◌then◌else◌}
+use Rattle.std.proofs.Common.{◌≡◌, ℕ, ◌+◌, ◌≤◌, ◌<◌, Bool, true, false, List, [], ◌∷◌, ◌++◌, Option, Some, IfSome, IsSome, Result, Ok, Err, IfOk, OnOk}
+use Rattle.std.proofs.Common.{ap, append-nil, append_assoc, flat_map, length, refl, subst, sym, take, ◌∙◌, if◌then◌else◌}
 use Rattle.std.proofs.lemmas.Grind.{flat_map-append}
 use Rattle.std.proofs.lemmas.List.{take_all, take_more}
 use Rattle.test_report.specs.declared.result.TestResult.{TestResult}
 use Rattle.test_text.specs.declared.test_file.TestCase.{TestCase}
 use Rattle.test_words.specs.declared.words.TestWords.{TestWords}
-use Rattle.rule_tests.specs.Results.{Adds, AreResults, IsResult, SourceTest, chosen_in}
-use Rattle.rule_tests.specs.Tests.{is_chosen}
+use Rattle.test_plan.specs.Ways.{ways}
+use Rattle.tested_runs.specs.Runs.{WaysCome, cuts_of}
+use Rattle.tested_runs.specs.Schedules.{WayTold}
+use Rattle.tested_runs.specs.declared.outcome.TestOutcome.{TestOutcome}
 use Rattle.tested_runs.specs.declared.source.TestSource.{TestSource}
+use Rattle.tested_runs.specs.declared.stop.TestStop.{TestStop}
+use Rattle.rule_tests.specs.Results.{Adds, AreResults, IsPlaced, IsResult, SourceTest, chosen_in, told_schedule}
+use Rattle.rule_tests.specs.Tests.{config_name, is_chosen}
 use Rattle.tested_runs.proofs.Comes.{At}
 
 abbrev Told : Type 0
 Told = List ℕ → Option (List ℕ)
+
+-- of the runs of a test
+pub result_told : (told : Told) (words : TestWords) (source : TestSource) (test : TestCase) (outcome : TestOutcome)
+    (orders : List (List (List ℕ))) (r : Result TestResult TestStop) (before after : Option (List ℕ))
+    → ways words.orders (length test.clients) test.steps ≡ Some orders
+    → WaysCome told (config_name source test) test.steps (cuts_of words.cuts test.steps) outcome.passed orders
+    → IfSome outcome.schedule (WayTold told (config_name source test) test.steps (cuts_of words.cuts test.steps) orders outcome.passed)
+    → (0 < length orders → IsSome outcome.schedule) → IfOk r (λ t. t.passed ≡ outcome.passed) → IfOk r (IsPlaced source test)
+    → OnOk r (after ≡ told_schedule before outcome.schedule) → IfOk r (λ t. IsResult told words source test t before after)
+result_told told words source test outcome orders (Err why) before after are come kept there passed placed written = tt
+result_told told words source test outcome orders (Ok t) before after are come kept there passed placed written = record {
+  placed = placed;
+  runs = record {
+    orders = orders;
+    ways_are = are;
+    comes = subst (λ (b : Bool). WaysCome told (config_name source test) test.steps (cuts_of words.cuts test.steps) b orders) (sym passed) come;
+  };
+  schedule = outcome.schedule;
+  of_run = subst (λ (b : Bool). IfSome outcome.schedule (WayTold told (config_name source test) test.steps (cuts_of words.cuts test.steps) orders b))
+      (sym passed) kept;
+  there = there;
+  written = written;
+}
 
 are_more : (told : Told) (words : TestWords) (ts us : List SourceTest) (rs qs : List TestResult) (before mid after : Option (List ℕ))
     → AreResults told words ts rs before mid → AreResults told words us qs mid after
