@@ -1,11 +1,13 @@
 -- What a test names and its configuration hasn't: a virtual server, a pool, or a member of it.
-use Rattle.std.specs.Prelude.{ℕ, Bool, List, [], ◌∷◌, Option, Some, None, is_none, codes}
+use Rattle.std.specs.Prelude.{ℕ, Bool, false, List, [], ◌∷◌, Option, Some, None, is_none, option_map, codes}
 use Rattle.std.specs.Prelude.{if◌then◌else◌}
 use Rattle.std.specs.List.{list_any}
 use Rattle.std.specs.Str.{bytes_eq}
 use Rattle.run_config.specs.declared.config.Config.{Config}
 use Rattle.run_config.specs.declared.config.Virtual.{Virtual}
-use Rattle.shared_store.specs.Store.{has_member, pool_of}
+use Rattle.pools.specs.Pools.{PoolState}
+use Rattle.shared_store.specs.Store.{has_member, has_name, pool_of}
+use Rattle.shared_store.specs.declared.named.NamedPool.{NamedPool}
 use Rattle.test_text.specs.declared.deed.Deed.{Deed}
 use Rattle.test_text.specs.declared.deed.Deed.TheVariants.{Comes, Marks}
 use Rattle.test_text.specs.declared.deed.PlacedAddr.{PlacedAddr}
@@ -17,6 +19,14 @@ use Rattle.test_text.specs.declared.test_file.TestStep.TheVariants.{One, Togethe
 use Rattle.test_names.specs.declared.named.Unnamed.{Unnamed}
 use Rattle.test_names.specs.declared.named.Unnamed.TheVariants as unnamed
 use Rattle.test_names.specs.declared.named.UnnamedAt.{UnnamedAt}
+
+-- whether there is a pool, which has this name
+abbrev pub is_named : List ℕ → Option NamedPool → Bool
+is_named name None = false
+is_named name (Some named) = has_name name named
+
+abbrev pub pool_in : Option NamedPool → Option PoolState
+pool_in named = option_map (λ n. n.pool) named
 
 abbrev pub has_virtual : List Virtual → List ℕ → Bool
 has_virtual servers name = list_any (λ v. bytes_eq v.name name) servers

@@ -4,13 +4,14 @@ ghost use Rattle.std.specs.Prelude.{◌≡◌, IfOk, option_map};
 ghost use Rattle.std.specs.List.{list_any};
 ghost use Rattle.pools.specs.Pools.{has_addr};
 ghost use Rattle.shared_store.specs.Store.{pool_of};
-ghost use Rattle.test_names.specs.Names.{has_virtual, unnamed_among, unnamed_by, unnamed_in};
-ghost use Rattle.test_names.specs.Names.{unnamed_member, unnamed_of, unnamed_virtual, unnamed_words};
+ghost use Rattle.test_names.specs.Names.{has_virtual, is_named, pool_in, unnamed_among, unnamed_by};
+ghost use Rattle.test_names.specs.Names.{unnamed_in, unnamed_member, unnamed_of, unnamed_virtual};
+ghost use Rattle.test_names.specs.Names.{unnamed_words};
 
 use pools::Pool;
 use px_bytes::{Addr, M};
 use run_config::{Config, Virtual};
-use shared_store::Pools;
+use shared_store::{NamedPool, Pools};
 use std::alloc::Global;
 use test_text::{Deed, PlacedAddr, PlacedDeed, PlacedName, PlacedStep, TestStep};
 
@@ -63,13 +64,30 @@ fn pool_of<'a>(pools: &'a Pools, name: &[u8]) -> Option<&'a Pool>
     ensures { option_map (λ p. p.now) result ≡ pool_of name.now pools.entry.now }
 {
     for at in 0..pools.len() {
-        if let Some(named) = pools.get(at) {
-            if name == named.name.as_bytes() {
-                return Some(&named.pool);
-            }
+        let named = pools.get(at);
+        if is_named(name, named) {
+            return pool_in(named);
         }
     }
     None
+}
+
+fn is_named(name: &[u8], named: Option<&NamedPool>) -> bool
+    ensures { result ≡ is_named name.now (option_map (λ n. n.now) named.entry) }
+{
+    match named {
+        Some(named) => name == named.name.as_bytes(),
+        None => false,
+    }
+}
+
+fn pool_in<'a>(named: Option<&'a NamedPool>) -> Option<&'a Pool>
+    ensures { option_map (λ p. p.now) result ≡ pool_in (option_map (λ n. n.now) named.entry) }
+{
+    match named {
+        Some(named) => Some(&named.pool),
+        None => None,
+    }
 }
 
 // Whether a pool has a member: a mark tells, which a copy of the pool gets.

@@ -1,14 +1,16 @@
-use Rattle.std.proofs.Common.{rules, ◌≡◌, IfOk, option_map, ℕ, ◌+◌, ◌-◌, ◌*◌, ◌<◌, ◌≤◌, length, ◌/◌, ◌%◌, Bool, true, false, nat_eq, nat_lt, List, [], ◌∷◌, ◌++◌, slice_index_or, slice_set, bit_and, bit_or, Fits, w8, w32, w64, Bor, MutBor}
-use Rattle.std.specs.List.{list_any}
-use Rattle.pools.specs.Pools.{has_addr}
-use Rattle.shared_store.specs.Store.{pool_of}
-use Rattle.test_names.specs.Names.{has_virtual, unnamed_among, unnamed_by, unnamed_in, unnamed_member, unnamed_of, unnamed_virtual, unnamed_words}
+use Rattle.std.proofs.Common.{◌≡◌, ◌<◌, ◌∙◌, subst, sym}
+use Rattle.test_names.proofs.NamedPools.{is_here, is_later}
 use Rattle.test_names.proofs.named.pool_of.Goals as goal
 
--- src/named.rt:68:17
-pub returns-then-eq : goal.returns-then-eq
-returns-then-eq c = ?
+pub returns-then-is_named : goal.returns-then-is_named
+returns-then-is_named c =
+    c.pool_in.ensures
+    ∙ sym (is_here c.args.name.now c.args.pools.now c.loop-at.at _ (sym c.get-named.ensures) (sym c.if-is_named.ensures))
+    ∙ c.loop-at.invariant
 
--- src/named.rt:65:5
 pub loop-at-preserved : goal.loop-at-preserved
-loop-at-preserved c = ?
+loop-at-preserved c =
+    is_later c.args.name.now c.args.pools.now c.loop-at.at _ (sym c.get-named.ensures)
+    (subst (λ n. c.loop-at.at < n) c.len-at-end.ensures c.loop-at-test.true)
+    (sym c.if-is_named.ensures)
+    ∙ c.loop-at.invariant
