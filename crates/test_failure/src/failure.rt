@@ -1,6 +1,6 @@
 // What is told of a run that failed.
 
-use crate::shown::{add_unasked, side_name};
+use crate::shown::{add_unasked, joined, side_name};
 use crate::stopped::add_stopped;
 use px_bytes::{M, Side, Text, Texts};
 use std::alloc::Global;
@@ -48,14 +48,18 @@ impl FailedRun<'_> {
         conn_of(client, self.came).unwrap_or(0)
     }
 
+    /// A client, or its server.
+    pub(crate) fn who(&self, alloc: Global, side: Side, client: usize) -> M<Text> {
+        let mut who = Text::new(alloc, side_name(side))?;
+        who.push(b" ")?;
+        who.push(self.name(client))?;
+        Ok(who)
+    }
+
     fn add_unread(&self, alloc: Global, lines: &mut Texts, side: Side, client: usize) -> M<()> {
         let got = self.got(alloc, side, client)?;
-        add_unasked(
-            alloc,
-            lines,
-            &[side_name(side), b" ", self.name(client)],
-            got.as_bytes(),
-        )
+        let who = self.who(alloc, side, client)?;
+        add_unasked(alloc, lines, &who, got.as_bytes())
     }
 
     // The last line that tells a fault.
@@ -77,7 +81,10 @@ impl FailedRun<'_> {
 
     fn add_fault(&self, alloc: Global, lines: &mut Texts, of: Option<usize>) -> M<()> {
         match self.fault_line(of) {
-            Some(line) => { add_unasked(alloc, lines, &[b"log ", self.owner(of)], line.as_bytes()) }
+            Some(line) => {
+                let who = joined(alloc, &[b"log ", self.owner(of)])?;
+                add_unasked(alloc, lines, &who, line.as_bytes())
+            }
             None => Ok(()),
         }
     }

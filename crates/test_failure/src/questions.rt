@@ -11,7 +11,51 @@ use std::alloc::Global;
 use test_past::{asked_by, finish_of, is_over, is_wished, next_line, row_told};
 use test_text::{Expectation, Wished, WishedRow};
 
+// Adds what is wished, and what came.
+fn add_wished(alloc: Global, lines: &mut Texts, what: &Wished, got: &[u8]) -> M<()> {
+    let expected = wish(alloc, what)?;
+    let shown = quoted(alloc, got)?;
+    add_both(alloc, lines, &expected, &shown)
+}
+
+fn add_compared(alloc: Global, lines: &mut Texts, what: &Wished, got: &[u8]) -> M<()> {
+    add_wished(alloc, lines, what, got)?;
+    add_agreeing(alloc, lines, what, got)
+}
+
+fn add_addrs(alloc: Global, lines: &mut Texts, expected: Option<Addr>, got: Option<Addr>) -> M<()> {
+    let expected = addr_or_none(alloc, expected)?;
+    let got = addr_or_none(alloc, got)?;
+    add_both(alloc, lines, &expected, &got)
+}
+
+fn add_values(
+    alloc: Global,
+    lines: &mut Texts,
+    expected: Option<&Text>,
+    got: Option<&Text>,
+) -> M<()> {
+    let expected = quoted_or(alloc, expected, b"none")?;
+    let got = quoted_or(alloc, got, b"none")?;
+    add_both(alloc, lines, &expected, &got)
+}
+
+fn add_row_head(alloc: Global, lines: &mut Texts, row: &WishedRow) -> M<()> {
+    let table = quoted(alloc, row.subtable.as_bytes())?;
+    let key = quoted(alloc, row.key.as_bytes())?;
+    add_line(
+        alloc,
+        lines,
+        &[b"row ", table.as_bytes(), b" ", key.as_bytes()],
+    )
+}
+
 impl FailedRun<'_> {
+    fn add_who(&self, alloc: Global, lines: &mut Texts, side: Side, client: usize) -> M<()> {
+        let who = self.who(alloc, side, client)?;
+        add_line(alloc, lines, &[who.as_bytes(), b" gets"])
+    }
+
     fn add_gets(
         &self,
         alloc: Global,
@@ -20,15 +64,9 @@ impl FailedRun<'_> {
         client: usize,
         what: &Wished,
     ) -> M<()> {
-        add_line(
-            alloc,
-            lines,
-            &[side_name(side), b" ", self.name(client), b" gets"],
-        )?;
+        self.add_who(alloc, lines, side, client)?;
         let got = self.got(alloc, side, client)?;
-        let shown = quoted(alloc, got.as_bytes())?;
-        add_both(alloc, lines, &wish(alloc, what)?, &shown)?;
-        add_agreeing(alloc, lines, what, got.as_bytes())
+        add_compared(alloc, lines, what, got.as_bytes())
     }
 
     // The names of these clients.
@@ -43,25 +81,69 @@ impl FailedRun<'_> {
         Ok(names)
     }
 
+    fn add_some_head(
+        &self,
+        alloc: Global,
+        lines: &mut Texts,
+        clients: &[usize],
+        what: &Wished,
+    ) -> M<()> {
+        let names = self.names(alloc, clients)?;
+        let wish = wish(alloc, what)?;
+        add_line(
+            alloc,
+            lines,
+            &[b"of {", names.as_bytes(), b"} get ", wish.as_bytes()],
+        )
+    }
+
     // Whether a client got what is wished.
     fn has_got(&self, alloc: Global, client: usize, what: &Wished) -> M<bool> {
         let got = self.got(alloc, Side::Client, client)?;
         Ok(is_wished(what, got.as_bytes()))
     }
 
-    // How many of these clients got what is wished, and which.
-    fn who_got(&self, alloc: Global, clients: &[usize], what: &Wished) -> M<Text> {
-        let mut names = Text::empty(alloc);
+    // How many of these clients got what is wished.
+    fn count_got(&self, alloc: Global, clients: &[usize], what: &Wished) -> M<usize> {
         let mut count: usize = 0;
         for client in clients {
             if self.has_got(alloc, *client, what)? {
                 count = count.saturating_add(1);
-                names.push(b" ")?;
-                names.push(self.name(*client))?;
             }
         }
-        let count = format!(in alloc; "{count}:")?;
-        joined(alloc, &[count.as_bytes(), names.as_bytes()])
+        Ok(count)
+    }
+
+    // Adds the name of a client that got what is wished.
+    fn push_if_got(&self, alloc: Global, names: &mut Text, client: usize, what: &Wished) -> M<()> {
+        if !self.has_got(alloc, client, what)? {
+            return Ok(());
+        }
+        names.push(b" ")?;
+        names.push(self.name(client))
+    }
+
+    // How many of these clients got what is wished, and which.
+    fn who_got(&self, alloc: Global, clients: &[usize], what: &Wished) -> M<Text> {
+        let count = self.count_got(alloc, clients, what)?;
+        let mut who = Text::new(alloc, format!(in alloc; "{count}:")?.as_bytes())?;
+        for client in clients {
+            self.push_if_got(alloc, &mut who, *client, what)?;
+        }
+        Ok(who)
+    }
+
+    fn add_counts(
+        &self,
+        alloc: Global,
+        lines: &mut Texts,
+        count: u64,
+        clients: &[usize],
+        what: &Wished,
+    ) -> M<()> {
+        let got = self.who_got(alloc, clients, what)?;
+        let count = Text::new(alloc, format!(in alloc; "{count}")?.as_bytes())?;
+        add_both(alloc, lines, &count, &got)
     }
 
     fn add_some_get(
@@ -72,15 +154,8 @@ impl FailedRun<'_> {
         clients: &[usize],
         what: &Wished,
     ) -> M<()> {
-        let names = self.names(alloc, clients)?;
-        let wish = wish(alloc, what)?;
-        add_line(
-            alloc,
-            lines,
-            &[b"of {", names.as_bytes(), b"} get ", wish.as_bytes()],
-        )?;
-        let count = Text::new(alloc, format!(in alloc; "{count}")?.as_bytes())?;
-        add_both(alloc, lines, &count, &self.who_got(alloc, clients, what)?)
+        self.add_some_head(alloc, lines, clients, what)?;
+        self.add_counts(alloc, lines, count, clients, what)
     }
 
     fn add_server(
@@ -91,9 +166,8 @@ impl FailedRun<'_> {
         addr: Option<Addr>,
     ) -> M<()> {
         add_line(alloc, lines, &[b"server ", self.name(client), b" is"])?;
-        let expected = addr_or_none(alloc, addr)?;
-        let got = addr_or_none(alloc, asked_by(self.conn(client), self.entries))?;
-        add_both(alloc, lines, &expected, &got)
+        let asked = asked_by(self.conn(client), self.entries);
+        add_addrs(alloc, lines, addr, asked)
     }
 
     // Whether a client's connection is over, and why.
@@ -133,21 +207,10 @@ impl FailedRun<'_> {
     }
 
     fn add_row(&self, alloc: Global, lines: &mut Texts, row: &WishedRow) -> M<()> {
+        add_row_head(alloc, lines, row)?;
         let (subtable, key) = (row.subtable.as_bytes(), row.key.as_bytes());
-        let (table, name) = (quoted(alloc, subtable)?, quoted(alloc, key)?);
-        add_line(
-            alloc,
-            lines,
-            &[b"row ", table.as_bytes(), b" ", name.as_bytes()],
-        )?;
         let told = row_told(alloc, self.rows, subtable, key, self.entries)?;
-        let expected = quoted_or(alloc, row.value.as_ref(), b"none")?;
-        add_both(
-            alloc,
-            lines,
-            &expected,
-            &quoted_or(alloc, told.as_ref(), b"none")?,
-        )
+        add_values(alloc, lines, row.value.as_ref(), told.as_ref())
     }
 
     /// Adds what is told of a question that doesn't hold.

@@ -84,8 +84,7 @@ pub(crate) fn add_agreeing(alloc: Global, lines: &mut Texts, what: &Wished, got:
 }
 
 /// Adds what came and no question asked for.
-pub(crate) fn add_unasked(alloc: Global, lines: &mut Texts, who: &[&[u8]], got: &[u8]) -> M<()> {
-    let who = joined(alloc, who)?;
+pub(crate) fn add_unasked(alloc: Global, lines: &mut Texts, who: &Text, got: &[u8]) -> M<()> {
     let got = quoted(alloc, got)?;
     add_line(
         alloc,
