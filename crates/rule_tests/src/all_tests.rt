@@ -160,6 +160,7 @@ fn run_and_say<F: Files, K: Sink, S: Sink>(
 }
 
 // The same, with a place for the results.
+#[tactic(auto, using(crate::proofs::Told::reports))]
 fn test_sources<F: Files, K: Sink, S: Sink>(
     alloc: Global,
     words: &TestWords,
@@ -183,6 +184,7 @@ fn test_sources<F: Files, K: Sink, S: Sink>(
 }
 
 /// Reads the files, makes all runs, and tells what they came to. Says whether all passed.
+#[tactic(auto, using(crate::proofs::Told::files_come))]
 pub(crate) fn test_files<F: Files, K: Sink, S: Sink>(
     alloc: Global,
     words: &TestWords,

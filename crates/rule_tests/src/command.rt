@@ -56,6 +56,7 @@ fn ended<K: Sink>(out: &mut K, passed: Result<bool, TestStop>) -> Status
 }
 
 /// Tests what the words say, and gives the status: 0 where all tests passed, 10 where one failed.
+#[tactic(auto, using(crate::proofs::Told::tested))]
 pub fn test_command<F: Files, K: Sink, S: Sink>(
     alloc: Global,
     words: &Texts,

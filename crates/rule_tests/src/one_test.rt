@@ -148,6 +148,7 @@ fn told<S: Sink>(
     Ok(result_of(source, test, outcome)?)
 }
 
+#[tactic(auto, using(crate::proofs::Results::result_told))]
 fn run_test<F: Files, S: Sink>(
     alloc: Global,
     words: &TestWords,
@@ -169,6 +170,7 @@ fn run_test<F: Files, S: Sink>(
 }
 
 /// Adds the result of a test that is to be run. Says whether it passed, or isn't to be run.
+#[tactic(auto, using(crate::proofs::Results::adds_other, crate::proofs::Results::adds_one))]
 pub(crate) fn run_chosen<F: Files, S: Sink>(
     alloc: Global,
     words: &TestWords,
