@@ -6,7 +6,7 @@ mod fault;
 mod groups;
 mod items;
 mod limits;
-mod pools;
+mod pool_items;
 mod print;
 mod read;
 mod rules;

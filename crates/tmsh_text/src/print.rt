@@ -8,7 +8,7 @@ use crate::fault::PrintFault;
 use crate::groups::groups;
 use crate::items::joined;
 use crate::limits::limits;
-use crate::pools::pools;
+use crate::pool_items::pools;
 use crate::rules::rules;
 use crate::servers::servers;
 use config::LoadedConfig;
