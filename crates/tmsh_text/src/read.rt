@@ -12,11 +12,7 @@ use tmsh_read::table_of;
 use toml::Table;
 
 /// The table of a text whose table loads, or why there is none.
-pub fn tmsh_table<F: Files>(
-    alloc: Global,
-    files: &mut F,
-    text: &[u8],
-) -> Result<Table, TmshFault>
+pub fn tmsh_table<F: Files>(alloc: Global, files: &mut F, text: &[u8]) -> Result<Table, TmshFault>
     ensures table { IfOk result (λ t. Imports (F.told files.old) text.now (table_view t)) }
     ensures refused { IfErr result (Refuses (F.told files.old) (F.faults files.old)
         (F.faults files.new) text.now) }
