@@ -10,10 +10,14 @@ use crate::LineKind;
 use crate::fields::verb_event;
 use crate::verb::read_verb;
 use core_events::Event;
+use smallvec::SmallVec;
 use std::alloc::{AllocError, Global};
 
 /// The most bytes of a line that isn't skipped, its LF not counted.
 pub const LONGEST_LINE: usize = 135_000;
+
+/// How many words of a line take no memory of their own.
+const INSIDE: usize = 8;
 
 /// The event that a line spells, which is given without its LF. None where the line is skipped: it
 /// is empty, or begins with `#` or `>`. Of several faults the one with the least number is told.
@@ -31,7 +35,7 @@ pub fn line_event(alloc: Global, line: &[u8]) -> Result<Option<Event>, LineKind>
         return Err(LineKind::LongLine);
     }
     let words = words_of(alloc, line)?;
-    Ok(Some(words_event(alloc, &words)?))
+    Ok(Some(words_event(alloc, words.as_slice())?))
 }
 
 fn is_skipped(line: &[u8]) -> bool
@@ -40,7 +44,7 @@ fn is_skipped(line: &[u8]) -> bool
     matches!(line, [] | [b'#' | b'>', ..])
 }
 
-fn words_of(alloc: Global, line: &[u8]) -> Result<Vec<&[u8]>, AllocError>
+fn words_of(alloc: Global, line: &[u8]) -> Result<SmallVec<&[u8], INSIDE>, AllocError>
     ensures { IfOk result (λ words. map (λ w. w.now) words.items ≡ words_of line.now) }
 {
     line.split(|byte| is_blank(*byte)).collect(alloc)

@@ -4,7 +4,11 @@ ghost use Rattle.std.specs.Prelude.{◌≡◌, ◌∷◌, map, option_map, IfOk}
 ghost use Rattle.std.specs.List.{position_or_len};
 ghost use Rattle.journal_value.specs.Words.{is_space, more_words, words_of};
 
+use smallvec::SmallVec;
 use std::alloc::{AllocError, Global};
+
+/// How many words of a line take no memory of their own.
+const INSIDE: usize = 8;
 
 /// What stands before the first blank, and what stands behind it; None where there is none.
 pub fn cut(text: &[u8]) -> (&[u8], Option<&[u8]>)
@@ -34,17 +38,17 @@ fn is_space(byte: u8) -> bool
 }
 
 /// The words behind a blank; none where there was no blank.
-pub fn more_words(alloc: Global, rest: Option<&[u8]>) -> Result<Vec<&[u8]>, AllocError>
+pub fn more_words(alloc: Global, rest: Option<&[u8]>) -> Result<SmallVec<&[u8], INSIDE>, AllocError>
     ensures { IfOk result (λ words. map (λ w. w.now) words.items
         ≡ more_words (option_map (λ x. x.now) rest.entry)) }
 {
     match rest {
         Some(text) => words_of(alloc, text),
-        None => Ok(Vec::new(alloc)),
+        None => Ok(SmallVec::new(alloc)),
     }
 }
 
-fn words_of(alloc: Global, text: &[u8]) -> Result<Vec<&[u8]>, AllocError>
+fn words_of(alloc: Global, text: &[u8]) -> Result<SmallVec<&[u8], INSIDE>, AllocError>
     ensures { IfOk result (λ words. map (λ w. w.now) words.items ≡ words_of text.now) }
 {
     text.split(|byte| is_space(*byte)).collect(alloc)

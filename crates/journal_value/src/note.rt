@@ -41,5 +41,5 @@ fn note_behind(alloc: Global, head: Head<'_>) -> M<Option<Note>>
         return log_note(alloc, head.conn, head.rest);
     }
     let words = more_words(alloc, head.rest)?;
-    note_of(alloc, head.verb, head.conn, &words)
+    note_of(alloc, head.verb, head.conn, words.as_slice())
 }
