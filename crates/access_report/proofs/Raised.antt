@@ -1,17 +1,17 @@
 -- What is found in a tree after a value was put at a key.
-use Rattle.std.proofs.Common.{◌≡◌, ℕ, Bool, true, false, cond, List, [], ◌∷◌, Option, Some, map, sym, refl, ap, ◌∙◌}
+use Rattle.std.proofs.Common.{◌≡◌, ℕ, Bool, true, false, cond, List, [], ◌∷◌, Option, Some, None, IsSome, unwrap_or, map, sym, refl, ap, ◌∙◌, zero-add}
 use Rattle.std.specs.declared.cmp.Ordering.TheVariants.{Less, Equal, Greater}
 use Rattle.std.specs.BTreeMap.{insert_entry}
 use Rattle.std.specs.Cmp.Lexicographic.{slice_cmp}
 use Rattle.std.specs.List.{AllByRecursion}
 use Rattle.std.specs.List.Sorted.{IsStrictlySortedBy}
-use Rattle.std.specs.Map.{lookup}
+use Rattle.std.specs.Map.{lookup, set_value}
 use Rattle.std.specs.Ordering.{nat_cmp, is_eq, match_ordering}
 use Rattle.std.specs.Str.{bytes_eq}
 use Rattle.std.proofs.lemmas.Map.Text.{is_eq-slice_cmp}
 use Rattle.std.proofs.lemmas.Slice.Eq.{bytes_eq-Decides}
-use Rattle.access_report.specs.Raising.{Row, counts_at, raised}
-use Rattle.access_report.specs.Sums.{plus}
+use Rattle.access_report.specs.Raising.{Row, raised}
+use Rattle.access_report.specs.Sums.{none, plus}
 use Rattle.access_report.specs.declared.counts.ServerCounts.{ServerCounts}
 
 -- an equal key takes the value
@@ -70,14 +70,47 @@ module _ {K X : Type 0} (bytes : K → List ℕ) where
   seen_after k x q es =
       sym (found_seen q _) ∙ found_after k x q es ∙ ap (λ o. cond (bytes_eq q (bytes k)) (Some x) o) (found_seen q es)
 
+  -- where a key was found, another value written there
+  pub seen_written : (name asked : List ℕ) (x : X) (es : List (K × X)) → IsSome (lookup (has_bytes bytes name) es)
+      → lookup (bytes_eq asked) (seen bytes (set_value (has_bytes bytes name) es x))
+      ≡ cond (bytes_eq asked name) (Some x) (lookup (bytes_eq asked) (seen bytes es))
+  seen_written name asked x [] there = cc
+  seen_written name asked x (e ∷ es) there = by_key (has_bytes bytes name e.0) refl (λ behind. seen_written name asked x es behind) there
+    where
+      by_key : (b : Bool) → has_bytes bytes name e.0 ≡ b
+          → (IsSome (lookup (has_bytes bytes name) es) → lookup (bytes_eq asked) (seen bytes (set_value (has_bytes bytes name) es x)) ≡ cond (bytes_eq asked name) (Some x) (lookup (bytes_eq asked) (seen bytes es)))
+          → IsSome (cond b (Some e.1) (lookup (has_bytes bytes name) es))
+          → lookup (bytes_eq asked) (seen bytes (cond b ((e.0, x) ∷ es) (e ∷ set_value (has_bytes bytes name) es x)))
+          ≡ cond (bytes_eq asked name) (Some x) (cond (bytes_eq asked (bytes e.0)) (Some e.1) (lookup (bytes_eq asked) (seen bytes es)))
+      by_key true h more here =
+          let same : name ≡ bytes e.0 = (bytes_eq-Decides name (bytes e.0)).0 (sym (is_eq-slice_cmp name (bytes e.0)) ∙ h) in
+          taken (bytes_eq asked (bytes e.0)) (bytes_eq asked name) x e.1 (lookup (bytes_eq asked) (seen bytes es)) (ap (bytes_eq asked) (sym same))
+      by_key false h more there =
+          let apart : bytes_eq asked (bytes e.0) ≡ true → bytes_eq asked name ≡ true → ⊥ = λ here both.
+          let first : asked ≡ bytes e.0 = (bytes_eq-Decides asked (bytes e.0)).0 here in
+          let second : asked ≡ name = (bytes_eq-Decides asked name).0 both in
+          let equal : has_bytes bytes name e.0 ≡ true = is_eq-slice_cmp name (bytes e.0) ∙ (bytes_eq-Decides name (bytes e.0)).1 (sym second ∙ first) in
+          let never : false ≡ true = sym h ∙ equal in
+          cc in
+          ap (λ o. cond (bytes_eq asked (bytes e.0)) (Some e.1) o) (more there)
+          ∙ sym (passed (bytes_eq asked (bytes e.0)) (bytes_eq asked name) e.1 x (lookup (bytes_eq asked) (seen bytes es)) apart)
+
 -- ---- a name that was raised
 
-pub raised_is : (rows seen_rows : List Row) (key name asked : List ℕ) (counts had more : ServerCounts) → seen_rows ≡ rows → key ≡ name → counts ≡ plus had more → had ≡ counts_at rows name
-    → cond (bytes_eq asked key) (Some counts) (lookup (bytes_eq asked) seen_rows) ≡ raised rows name more asked
-raised_is rows seen_rows key name asked counts had more same named sum was =
-    ap (λ es. cond (bytes_eq asked key) (Some counts) (lookup (bytes_eq asked) es)) same
-    ∙ ap (λ k. cond (bytes_eq asked k) (Some counts) (lookup (bytes_eq asked) rows)) named
-    ∙ ap (λ x. cond (bytes_eq asked name) (Some x) (lookup (bytes_eq asked) rows)) (sum ∙ ap (λ h. plus h more) was)
+-- it has a value, and the sum is written there
+pub raised_there : (rows : List Row) (name asked : List ℕ) (had counts more : ServerCounts) → lookup (bytes_eq name) rows ≡ Some had → counts ≡ plus had more
+    → cond (bytes_eq asked name) (Some counts) (lookup (bytes_eq asked) rows) ≡ raised rows name more asked
+raised_there rows name asked had counts more there sum =
+    ap (λ x. cond (bytes_eq asked name) (Some x) (lookup (bytes_eq asked) rows)) (sum ∙ ap (λ o. plus (unwrap_or o none) more) (sym there))
+
+plus_none : (more : ServerCounts) → plus none more ≡ more
+plus_none more = rw (zero-add more.conns, zero-add more.bytes, zero-add more.calls, zero-add more.early) refl
+
+-- it has none, and comes with the counts
+pub raised_fresh : (rows : List Row) (name asked : List ℕ) (more : ServerCounts) → lookup (bytes_eq name) rows ≡ None
+    → cond (bytes_eq asked name) (Some more) (lookup (bytes_eq asked) rows) ≡ raised rows name more asked
+raised_fresh rows name asked more gone =
+    ap (λ x. cond (bytes_eq asked name) (Some x) (lookup (bytes_eq asked) rows)) (sym (plus_none more) ∙ ap (λ o. plus (unwrap_or o none) more) (sym gone))
 
 -- ---- sorted as they are seen
 

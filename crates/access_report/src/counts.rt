@@ -1,7 +1,9 @@
 // What is counted.
 
-ghost use Rattle.std.specs.Prelude.{◌≡◌, IfSome};
+ghost use Rattle.std.specs.Prelude.{◌≡◌, IfSome, OnOk};
 ghost use Rattle.access_report.specs.Sums.{none, plus};
+
+use px_bytes::{M, Memory};
 
 /// What a virtual server had. Each sum of 64-bit numbers, one a line, fits 128 bits.
 #[derive(Clone, Copy, PartialEq, Eq)]
@@ -24,8 +26,19 @@ impl ServerCounts {
         early: 0,
     };
 
-    /// Both together; None where a sum has no 128 bits.
-    pub fn plus(self, more: ServerCounts) -> Option<ServerCounts>
+    /// Adds more to it. `Memory` where a sum has no 128 bits.
+    pub fn raise(&mut self, more: ServerCounts) -> M<()>
+        ensures { OnOk result (self.new ≡ plus self.old more) }
+    {
+        let Some(counts) = self.plus(more) else {
+            return Err(Memory);
+        };
+        *self = counts;
+        Ok(())
+    }
+
+    // Both together; None where a sum has no 128 bits.
+    fn plus(self, more: ServerCounts) -> Option<ServerCounts>
         ensures { IfSome result (λ counts. counts ≡ plus self more) }
     {
         Some(ServerCounts {

@@ -8,12 +8,12 @@ ghost use Rattle.std.specs.Ordering.{nat_cmp};
 ghost use Rattle.std.specs.Str.{bytes_eq};
 ghost use Rattle.access_report.specs.Table.{counts_row};
 ghost use Rattle.access_report.specs.Trees.{entry_lines, names_of, rows_of};
-ghost use Rattle.access_report.specs.Raising.{counts_at, raised};
+ghost use Rattle.access_report.specs.Raising.{raised};
 ghost use Rattle.access_report.specs.declared.counts.ServerCounts.{ServerCounts};
 
 use crate::ServerCounts;
 use crate::table::counts_row;
-use px_bytes::{M, Memory, Text};
+use px_bytes::{M, Text};
 use std::alloc::Global;
 use std::collections::BTreeMap;
 use std::marker::Model;
@@ -39,22 +39,15 @@ impl ServerRows {
         }
     }
 
-    // What a name has.
-    fn at(&self, name: &[u8]) -> ServerCounts
-        ensures { result ≡ counts_at self.now name.now }
-    {
-        self.tree.get(name).copied().unwrap_or(ServerCounts::NONE)
-    }
-
     /// Adds to what a name has.
     pub fn raise(&mut self, alloc: Global, name: &[u8], more: ServerCounts) -> M<()>
         ensures { OnOk result ((asked : List ℕ) → lookup (bytes_eq asked) self.new
             ≡ raised self.old name.now more asked) }
     {
-        let Some(counts) = self.at(name).plus(more) else {
-            return Err(Memory);
-        };
-        self.tree.insert(Vec::from_slice(alloc, name)?, counts)?;
+        if let Some(counts) = self.tree.get_mut(name) {
+            return counts.raise(more);
+        }
+        self.tree.insert(Vec::from_slice(alloc, name)?, more)?;
         Ok(())
     }
 

@@ -9,7 +9,7 @@ use crate::ServerCounts;
 use crate::rows::ServerRows;
 use core_events::{Cause, Event, Note};
 use journal_value::JournalLine;
-use px_bytes::{M, Memory, Text};
+use px_bytes::{M, Text};
 use std::alloc::Global;
 use std::collections::HashMap;
 
@@ -90,27 +90,19 @@ impl Tally {
     fn accept(&mut self, alloc: Global, conn: u32, vs: &Text) -> M<()>
         ensures { OnOk result (Accepted self.old self.new conn vs.now) }
     {
-        let Some(total) = self.total.plus(ONE_CONN) else {
-            return Err(Memory);
-        };
         self.rows.raise(alloc, vs.as_bytes(), ONE_CONN)?;
         self.owners.insert(conn, vs.copy()?)?;
-        self.total = total;
-        Ok(())
+        self.total.raise(ONE_CONN)
     }
 
     // Something was counted of a connection.
     fn count(&mut self, alloc: Global, conn: u32, more: ServerCounts) -> M<()>
         ensures { OnOk result (Counted self.old self.new conn more) }
     {
-        let Some(total) = self.total.plus(more) else {
-            return Err(Memory);
-        };
         if let Some(vs) = self.owners.get(&conn) {
             self.rows.raise(alloc, vs.as_bytes(), more)?;
         }
-        self.total = total;
-        Ok(())
+        self.total.raise(more)
     }
 }
 
