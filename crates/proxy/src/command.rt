@@ -29,6 +29,10 @@ pub enum Command<'a> {
     Explain(&'a [u8]),
     /// Writes it in version 2.
     Migrate(&'a [u8]),
+    /// Writes the document of a second text.
+    Import(&'a [u8]),
+    /// Writes its second text.
+    Export(&'a [u8]),
     /// Says what the virtual servers of a record had.
     Report(&'a [u8]),
     Replay(Replay<'a>),
@@ -37,8 +41,8 @@ pub enum Command<'a> {
 }
 
 /// The command that the words are; None exactly where they are none of `check CONFIG`, `explain
-/// CONFIG`, `migrate CONFIG`, `report RECORD`, `replay CONFIG SCHEDULE` and `mirror CONFIG RECORD
-/// PLAN`.
+/// CONFIG`, `migrate CONFIG`, `import FILE`, `export CONFIG`, `report RECORD`, `replay CONFIG
+/// SCHEDULE` and `mirror CONFIG RECORD PLAN`.
 pub fn command_of(words: &Texts) -> Option<Command<'_>>
     ensures { option_map command_view result ≡ command_of words.now }
 {
@@ -51,6 +55,12 @@ pub fn command_of(words: &Texts) -> Option<Command<'_>>
         }
         [command, config] if command.as_bytes() == b"migrate".as_slice() && is_name(config) => {
             Some(Command::Migrate(config.as_bytes()))
+        }
+        [command, text] if command.as_bytes() == b"import".as_slice() && is_name(text) => {
+            Some(Command::Import(text.as_bytes()))
+        }
+        [command, config] if command.as_bytes() == b"export".as_slice() && is_name(config) => {
+            Some(Command::Export(config.as_bytes()))
         }
         [command, record] if command.as_bytes() == b"report".as_slice() && is_name(record) => {
             Some(Command::Report(record.as_bytes()))
