@@ -2,7 +2,7 @@
 
 ghost use Rattle.std.specs.Prelude.{◌≡◌, ◌≤◌, IfOk, IfErr, Some, length};
 ghost use Rattle.toml.specs.View.{table_view};
-ghost use Rattle.config.specs.Documents.{items_at};
+ghost use Rattle.config.specs.Documents.{document_fault, items_at};
 ghost use Rattle.config.specs.Keys.{name_key};
 ghost use Rattle.config.specs.Keys as key;
 ghost use Rattle.config.specs.Loading.{OfFault};
@@ -122,6 +122,23 @@ pub(crate) fn of_document<F: Files>(
     match document_fault(alloc, top)? {
         Some(fault) => Err(ConfigError::Fault(with_line(alloc, bytes, fault)?)),
         None => loaded(alloc, files, top),
+    }
+}
+
+/// The configuration that a table is, or what is wrong with it first; a key stands on no line.
+pub fn table_config<F: Files>(
+    alloc: Global,
+    files: &mut F,
+    table: &Table,
+) -> Result<LoadedConfig, ConfigError>
+    ensures answer { OfDocument (F.told files.old) (F.faults files.old) (F.faults files.new)
+        (table_view table.now) (document_fault (table_view table.now)) result }
+    ensures same_files { F.told files.new ≡ F.told files.old }
+    ensures faults_never_fall { F.faults files.old ≤ F.faults files.new }
+{
+    match document_fault(alloc, table)? {
+        Some(fault) => Err(ConfigError::Fault(fault)),
+        None => loaded(alloc, files, table),
     }
 }
 

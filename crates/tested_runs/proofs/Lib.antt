@@ -1,0 +1,4 @@
+pub mod Comes
+pub mod Cuts
+pub mod Kept
+pub mod Schedules
