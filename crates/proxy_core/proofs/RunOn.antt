@@ -283,7 +283,7 @@ module _ (C : Config) (past : Past) (s : State) (c : ℕ) (rest : List ℕ) wher
         let Z : List Item → ℕ → Type 0 = λ p n. Continues C (record (seen_after past Runs (items ++ behind) next c) { place = p; spent = n }) new in
         let N : (if nat_eq c c then s.spent c + slices else s.spent c) ≡ s.spent c + slices = ap (λ (b : Bool). if b then s.spent c + slices else s.spent c) (eq_self c) in
         let A : List Note → Type 0 = λ x. About c x in
-        let I : Edges → ℕ → Type 0 = λ e d. RunsItems g (taken h) e l c w.more w.at group t d in
+        let I : Edges → ℕ → Type 0 = λ e d. RunsItems g (taken h) e l c w.more w.at mine t d in
         record {
           next = next;
           ring = refl;

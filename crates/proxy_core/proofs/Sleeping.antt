@@ -375,11 +375,11 @@ module _ (C : Config) (past : Past) (old : State) (sound : Sound C past old) (al
     where
       by_test : (b : Bool) → nat_eq (about v old) q ≡ b → Own v group new q
       by_test true e = subst (λ n. Own v group new n) (eq_same (about v old) q e) (own_in_time v group new t fine m)
-      by_test false e found =
+      by_test false e =
           let k = keeps_calls C past v group old new t m in
           let touched = touches C past v group old new m in
           let same = ap (λ z. z.heard.failed) ((only_changed past v group old new touched).others q e) in
-          same_in_time q (calls_of q old.queue) _ (old.asleep q) _ (clock q past) _ (k.queue q e) (k.asleep q e) (still_clock q v old group (clock q past) t touched.notes e) (all q (sym same ∙ found))
+          λ found. same_in_time q (calls_of q old.queue) _ (old.asleep q) _ (clock q past) _ (k.queue q e) (k.asleep q e) (still_clock q v old group (clock q past) t touched.notes e) (all q (sym same ∙ found))
 
   -- and behind a Tick, which isn't before the last
   tick_in_time : (moment : ℕ) (group : List Note) (new : State) → refused C past old (Ticks moment) ≡ None → MovesTick moment group old new → (q : ℕ) → Own (Ticks moment) group new q
@@ -406,7 +406,7 @@ module _ (C : Config) (past : Past) (old : State) (sound : Sound C past old) (al
 -- ---- behind every past
 
 pub all_in_time : (C : Config) (past : Past) (s : State) → Leads C past s → AllInTime past s
-all_in_time C [] s leads = subst (λ x. AllInTime [] x) (sym leads) (λ c found. refl)
+all_in_time C [] s leads c = subst (λ x. AllInTime [] x) (sym leads) (λ c found. refl) c
 all_in_time C (x ∷ past) s (before, leads, fine, moves) c =
     moved_in_time C past before (leads_sound C past before leads) (all_in_time C past before leads) (kind_of x.event) x.group s fine moves c
 
