@@ -95,6 +95,15 @@ def all_at_once(port, many):
     return found
 
 
+def rests(pid):
+    """The processor time of the program once it took none for a second."""
+    last = -1.0
+    while serve.processor(pid) != last:
+        last = serve.processor(pid)
+        time.sleep(1)
+    return last
+
+
 def wakes(found, sleep):
     """How many were answered rightly and not too early, and how late the last one was, in milliseconds."""
     poll, right, late, open_ones = selectors.DefaultSelector(), 0, 0.0, len(found)
@@ -133,13 +142,13 @@ def first_demand(ports, words):
 
 
 def second_demand(pid, ports, words, sleep):
+    before = serve.processor(pid)
     found = all_at_once(ports[1], words.many)
-    taken = time.monotonic() - found[0][1]
-    time.sleep(1)
+    begun = rests(pid) - before
     before = serve.processor(pid)
     time.sleep(words.seconds)
     spent = serve.processor(pid) - before
-    print(f"{len(found)} sleepers, connected in {taken:.1f} s: {spent:.0f} processor ms in {words.seconds:.0f} s of their sleep, "
+    print(f"{len(found)} fall asleep in {begun:.0f} processor ms: {spent:.0f} processor ms in {words.seconds:.0f} s of their sleep, "
           f"{serve.resident(pid)} KB resident")
     before = serve.processor(pid)
     process, told = beside(ports[2], 64, words.seconds)
@@ -164,7 +173,7 @@ def main():
     hard = resource.getrlimit(resource.RLIMIT_NOFILE)[1]
     resource.setrlimit(resource.RLIMIT_NOFILE, (hard, hard))
     ports = [serve.free_port() for _ in range(3)]
-    sleep = round(words.seconds * 2000 + 10000)
+    sleep = round(words.seconds * 2000 + 20000)
     with tempfile.TemporaryDirectory() as folder:
         config = f"{folder}/serve.toml"
         open(config, "w").write(CONFIG % (*ports, sleep, "x" * 199))
