@@ -39,6 +39,7 @@ use Rattle.conn.specs.RunsItems.{Passes}
 use Rattle.conn.specs.Settling.{closing, is_over, settling_at, took_all, given_up_at}
 use Rattle.proxy_core.specs.Bounds.{BytesAreBounded}
 use Rattle.proxy_core.specs.Calls.{asker}
+use Rattle.record_model.proofs.FewRows.{rows_are_few}
 use Rattle.record_model.specs.History.{store_of}
 use Rattle.proxy_core.specs.Live.{entry_note}
 use Rattle.proxy_core.specs.Moves.{MovesFailed, MovesLacks, MovesOn, MovesCome, MovesRing, MovesFront, MovesQueue, Rests, TurnNotes, MovesBy, RunsOn, RunsOut, RunsFailed, Leads, told_last}
@@ -359,4 +360,5 @@ bytes_bounded C past s leads c accepted side =
       pending_is_bounded = pending_bounded (setup_of C z.heard) (heads_fit C z.heard) began.client began.answers l z.place (taken z.heard) side k.stands k.met few.passes;
       payload_is_bounded = few.lies.host.payload;
       heads_are_bounded = few.lies.host.heads;
+      rows_are_bounded = rows_are_few C past;
     }
