@@ -15,11 +15,11 @@ use Rattle.record_model.specs.Laws.{RowsAreFew}
 use Rattle.record_model.specs.Past.{Past}
 use Rattle.run_config.specs.declared.config.Config.{Config}
 
-answered_few : (limit : ℕ) (es : List Entry) (store : StoreState) → FewRows limit store → FewRows limit (answered es store)
+answered_few : (limit : ℕ) (es : List Entry) (store : StoreState) → FewRows limit store.table → FewRows limit (answered es store).table
 answered_few limit [] store k = k
 answered_few limit (e ∷ es) store k = answered_few limit es (live_reply store e.moment e.call).after (rows_stay_few limit store e.moment e.call k)
 
-few_on : (limit : ℕ) (v : EventKind) (group : List Note) (store : StoreState) → FewRows limit store → FewRows limit (store_after v group store)
+few_on : (limit : ℕ) (v : EventKind) (group : List Note) (store : StoreState) → FewRows limit store.table → FewRows limit (store_after v group store).table
 few_on limit Turns group store k = answered_few limit (entries_in group) store k
 few_on limit (Ticks moment) group store k = record { same = k.same; few = (let less = few_left (is_live moment) store.table.rows in let few = k.few in omega (arith, less, few)) }
 few_on limit (Marks pool member up) group store k = k
@@ -27,7 +27,7 @@ few_on limit (Accepts c vs from) group store k = k
 few_on limit (Comes c input) group store k = k
 few_on limit Runs group store k = k
 
-few_behind : (C : Config) (past : Past) → FewRows C.rows (store_of C past)
+few_behind : (C : Config) (past : Past) → FewRows C.rows (store_of C past).table
 few_behind C [] = record { same = refl; few = omega arith }
 few_behind C (x ∷ past) = few_on C.rows (kind_of x.event) x.group (store_of C past) (few_behind C past)
 

@@ -19,7 +19,7 @@ use Rattle.shared_store.specs.declared.words.Call.TheVariants as call
 
 module _ (limit moment : ℕ) where
   abbrev Few : StoreState → Type 0
-  Few store = FewRows limit store
+  Few store = FewRows limit store.table
 
   chosen_few : (o : Option Addr) (s : Source) (store : StoreState) → Few store → Few (keeps_selected o s moment store)
   chosen_few None s store k = k

@@ -3,6 +3,7 @@ use Rattle.std.specs.Prelude.{◌≡◌, ◌≤◌, ℕ, List, length}
 use Rattle.std.specs.List.{AllPass}
 use Rattle.persistence.specs.Records as records
 use Rattle.session_table.specs.Rows as rows
+use Rattle.session_table.specs.Tables.{TableState}
 use Rattle.shared_store.specs.Calls.{live_reply}
 use Rattle.shared_store.specs.Store.{StoreState, at_moment}
 
@@ -24,12 +25,12 @@ abbrev pub LiveStoreStays : Type 0
 LiveStoreStays = (store : StoreState) (moment : ℕ) (call : List (List ℕ))
     → StoreIsLive moment store → StoreIsLive moment (live_reply store moment call).after
 
--- the session table has this limit, and no more rows
-pub record FewRows (limit : ℕ) (store : StoreState) : Type 0 where
-  pub same : store.table.limit ≡ limit
-  pub few : length store.table.rows ≤ limit
+-- a session table has this limit, and no more rows
+pub record FewRows (limit : ℕ) (table : TableState) : Type 0 where
+  pub same : table.limit ≡ limit
+  pub few : length table.rows ≤ limit
 
 -- no call leaves more
 abbrev pub RowsStayFew : Type 0
 RowsStayFew = (limit : ℕ) (store : StoreState) (moment : ℕ) (call : List (List ℕ))
-    → FewRows limit store → FewRows limit (live_reply store moment call).after
+    → FewRows limit store.table → FewRows limit (live_reply store moment call).after.table
