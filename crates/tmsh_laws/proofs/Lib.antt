@@ -1,0 +1,12 @@
+pub mod Groups
+pub mod Limits
+pub mod Lines
+pub mod Lookups
+pub mod Marks
+pub mod Pools
+pub mod Reading
+pub mod Servers
+pub mod Stanzas
+pub mod Tables
+pub mod Utf8
+pub mod Whole
