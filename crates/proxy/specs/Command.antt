@@ -5,14 +5,14 @@ use Rattle.std.specs.Str.{bytes_eq}
 use Rattle.proxy.specs.declared.command.Command as code
 use Rattle.proxy.specs.declared.command.Command.TheVariants as words
 use Rattle.proxy.specs.declared.command.MirrorFiles.{MirrorFiles}
-use Rattle.proxy.specs.declared.command.Replay.{Replay}
+use Rattle.proxy.specs.declared.command.ReplayFiles.{ReplayFiles}
 
 -- the names of the files that a replay reads
 pub record Named : Type 0 where
   pub config : List ℕ
   pub schedule : List ℕ
 
-abbrev pub named_of : Replay → Named
+abbrev pub named_of : ReplayFiles → Named
 named_of r = record { config = r.config.now; schedule = r.schedule.now }
 
 -- the names of the files that a mirror reads

@@ -7,7 +7,7 @@ use px_bytes::{Text, Texts};
 
 /// The files that a replay reads.
 #[derive(Clone, Copy)]
-pub struct Replay<'a> {
+pub struct ReplayFiles<'a> {
     pub config: &'a [u8],
     pub schedule: &'a [u8],
 }
@@ -35,7 +35,7 @@ pub enum Command<'a> {
     Export(&'a [u8]),
     /// Says what the virtual servers of a record had.
     Report(&'a [u8]),
-    Replay(Replay<'a>),
+    Replay(ReplayFiles<'a>),
     /// Feeds a standby of the session table of a record, as a plan says.
     Mirror(MirrorFiles<'a>),
 }
@@ -68,7 +68,7 @@ pub fn command_of(words: &Texts) -> Option<Command<'_>>
         [command, config, schedule]
             if command.as_bytes() == b"replay".as_slice() && is_name(config) && is_name(schedule) =>
             {
-                Some(Command::Replay(Replay {
+                Some(Command::Replay(ReplayFiles {
                     config: config.as_bytes(),
                     schedule: schedule.as_bytes(),
                 }))

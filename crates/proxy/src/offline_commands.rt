@@ -10,7 +10,7 @@ ghost use Rattle.proxy.specs.Report.{config_fault};
 ghost use Rattle.proxy.specs.Says.{Refuses, Says, Tells};
 ghost use Rattle.proxy.specs.declared.end.End.TheVariants.{Config};
 
-use crate::command::{Command, Replay, command_of};
+use crate::command::{Command, ReplayFiles, command_of};
 use crate::end::{End, Status};
 use crate::explain_command::explain;
 use crate::migrate_command::migrate;
@@ -76,7 +76,7 @@ fn check<F: Files, K: Sink>(alloc: Global, name: &[u8], files: &mut F, out: &mut
 // Reads both files, and replays the schedule where the configuration loads and can be run.
 fn replay_files<F: Files, K: Sink>(
     alloc: Global,
-    named: Replay<'_>,
+    named: ReplayFiles<'_>,
     files: &mut F,
     out: &mut K,
 ) -> End

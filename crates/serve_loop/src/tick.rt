@@ -11,14 +11,14 @@ ghost use Rattle.serve_loop.specs.Faults.{FromNet, is_memory};
 
 use crate::ServeFault;
 use crate::serving::Serving;
-use core_events::{Core, Event};
+use core_events::{Event, EventCore};
 use px_bytes::{Seq, Side};
 use px_outside::{Net, ReadyList};
 
 /// The greatest moment of a Tick.
 const TICK_LIMIT: u64 = 9_007_199_254_740_992;
 
-impl<C: Core + Drop> Serving<C> {
+impl<C: EventCore + Drop> Serving<C> {
     /// Gives the present moment to the core, where it is above the last one.
     #[tactic(auto, using(crate::proofs::Failing::from_later, crate::proofs::Failing::from_memory))]
     fn tick<N: Net>(&mut self, net: &mut N, now: u64) -> Result<(), ServeFault>

@@ -10,11 +10,11 @@ use crate::due::{due_links, due_slots};
 use crate::fault::turn_end;
 use crate::poll::Poll;
 use crate::server::Server;
-use core_events::Core;
+use core_events::EventCore;
 use px_bytes::Seq;
 use px_outside::{Clock, Net, Sink};
 
-impl<C: Core + Drop> Server<C> {
+impl<C: EventCore + Drop> Server<C> {
     /// One turn: a Tick where time went on, one wait, each due listener and link in order, pairs of
     /// a Run and a Turn, and what is pending; then the lines of the journal are written, also
     /// behind a fault.

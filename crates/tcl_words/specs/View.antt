@@ -6,11 +6,11 @@ use Rattle.tcl_words.specs.Tree.{no_commands, and_command}
 use Rattle.tcl_words.specs.declared.script.Part.{fold-Part}
 use Rattle.tcl_words.specs.declared.script.Part as code
 use Rattle.tcl_words.specs.declared.script.Script.{Script, fold-Script}
-use Rattle.tcl_words.specs.declared.script.Command as code_command
-use Rattle.tcl_words.specs.declared.script.Command.{fold-Command}
+use Rattle.tcl_words.specs.declared.script.ScriptCommand as code_command
+use Rattle.tcl_words.specs.declared.script.ScriptCommand.{fold-ScriptCommand}
 use Rattle.tcl_words.specs.declared.script.Word as code_word
 use Rattle.tcl_words.specs.declared.script.Word.{fold-Word}
-use Rattle.tcl_words.specs.declared.script.Part.TheOpen.{Part-F, Command-F, Script-F, Word-F}
+use Rattle.tcl_words.specs.declared.script.Part.TheOpen.{Part-F, ScriptCommand-F, Script-F, Word-F}
 
 abbrev pub parts_of : List Part → Parts
 parts_of [] = no_parts
@@ -34,7 +34,7 @@ part_step (Part-F.Bracket s inside) = bracket s inside
 abbrev pub word_step : Word-F Part Command Commands Word → Word
 word_step w = word w.span w.form w.inner w.raw (parts_of w.parts.items)
 
-abbrev pub command_step : Command-F Part Command Commands Word → Command
+abbrev pub command_step : ScriptCommand-F Part Command Commands Word → Command
 command_step c = command c.span (words_of c.words.items)
 
 abbrev pub script_step : Script-F Part Command Commands Word → Commands
@@ -46,8 +46,8 @@ part_view = fold-Part Part Command Commands Word part_step command_step script_s
 abbrev pub word_view : code_word.Word → Word
 word_view = fold-Word Part Command Commands Word part_step command_step script_step word_step
 
-abbrev pub command_view : code_command.Command → Command
-command_view = fold-Command Part Command Commands Word part_step command_step script_step word_step
+abbrev pub command_view : code_command.ScriptCommand → Command
+command_view = fold-ScriptCommand Part Command Commands Word part_step command_step script_step word_step
 
 abbrev pub script_view : Script → Commands
 script_view = fold-Script Part Command Commands Word part_step command_step script_step word_step

@@ -1,7 +1,7 @@
 use Rattle.std.proofs.Common.{sym, ap, ◌∙◌}
 use Rattle.http_heads.specs.Lines.{is_visible_target}
 use Rattle.http_heads.proofs.Targets.{is_target}
-use Rattle.http_heads.proofs.line.Target.new.Goals as goal
+use Rattle.http_heads.proofs.line.RequestTarget.new.Goals as goal
 
 pub invariant_of-result : goal.invariant_of-result
 invariant_of-result c =

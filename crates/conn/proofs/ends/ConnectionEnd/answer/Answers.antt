@@ -4,7 +4,7 @@ use Rattle.http_heads.specs.declared.front.HeadPart.TheVariants.{HeadOf}
 use Rattle.http_messages.specs.Messages.{response_of}
 use Rattle.conn_trace.proofs.Parts.{HeadIn, head_inside}
 use Rattle.conn.proofs.Responding.{answer_here, told_failed, told_response}
-use Rattle.conn.proofs.ends.End.answer.Goals as goal
+use Rattle.conn.proofs.ends.ConnectionEnd.answer.Goals as goal
 
 pub slice_bounds-response_of-end : goal.slice_bounds-response_of-end
 slice_bounds-response_of-end c =
