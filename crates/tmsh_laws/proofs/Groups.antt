@@ -132,6 +132,9 @@ pub record GroupReads (g : GroupSettings) : Type 0 where
   pub name : IsRun g.name
   pub rows : Each RowReads g.rows
 
+abbrev pub with_group : Sketch → GroupSettings → Sketch
+with_group s g = record s { groups = push_item s.groups (table (group_members g)) }
+
 module _ (s : Sketch) (g : GroupSettings) (is : GroupReads g) where
   abbrev at : Entries → Sketch
   at es = among s block.Group (puts es no_members)
@@ -145,9 +148,6 @@ module _ (s : Sketch) (g : GroupSettings) (is : GroupReads g) where
       let p2 = records_item g.rows in
       piece (at e1) (at e2) last p1 (p2 ∷ []) (kind_goes s (puts e1 no_members) g.kind (lacks (codes "type") e1 refl))
       (piece (at e2) last last p2 [] (rows_go s (puts e2 no_members) g.rows is.rows (lacks (codes "rows") e2 refl)) (nothing LineStart last))
-
-  abbrev pub with_group : Sketch
-  with_group = record s { groups = push_item s.groups (table (group_members g)) }
 
   head : (after : List ℕ) (u : Sketch) → ReadsAll LineStart (at ((codes "name", Some (string g.name)) ∷ [])) after u
       → ReadsAll LineStart (idle s next.Stanza) (codes "ltm data-group internal " ++ (g.name ++ (codes " {\n" ++ after))) u
@@ -164,15 +164,15 @@ module _ (s : Sketch) (g : GroupSettings) (is : GroupReads g) where
       (open_all Within opened (at ((codes "name", Some (string g.name)) ∷ [])) u refl (10 ∷ after) refl refl
       (newline (at ((codes "name", Some (string g.name)) ∷ [])) u refl after more))))))))
 
-  pub group_goes : Goes LineStart (idle s next.Stanza) (group_text g) LineStart (idle with_group next.Stanza)
+  pub group_goes : Goes LineStart (idle s next.Stanza) (group_text g) LineStart (idle (with_group s g) next.Stanza)
   group_goes =
       let whole : is_some (get_member (codes "type") (group_members g)) ≡ true = contains (codes "type") (group_entries g) (string (kind_word g.kind)) refl in
-      let closes : step (at (group_entries g)) Close ≡ Some (idle with_group next.Stanza) = ap (λ x. if x then Some (closed block.Group (at (group_entries g))) else None) whole in
-      by_chain LineStart LineStart (idle s next.Stanza) (idle with_group next.Stanza) (codes "ltm data-group internal " ∷ (g.name ∷ (codes " {\n" ∷ (group_items g ∷ (codes "}\n" ∷ [])))))
+      let closes : step (at (group_entries g)) Close ≡ Some (idle (with_group s g) next.Stanza) = ap (λ x. if x then Some (closed block.Group (at (group_entries g))) else None) whole in
+      by_chain LineStart LineStart (idle s next.Stanza) (idle (with_group s g) next.Stanza) (codes "ltm data-group internal " ∷ (g.name ∷ (codes " {\n" ∷ (group_items g ∷ (codes "}\n" ∷ [])))))
       (λ rest u all.
         let ending = 125 ∷ (10 ∷ rest) in
         head (group_items g ++ ending) u
-        (items_go ending u (close_all LineStart (at (group_entries g)) (idle with_group next.Stanza) u refl (10 ∷ rest) refl closes (newline (idle with_group next.Stanza) u refl rest all))))
+        (items_go ending u (close_all LineStart (at (group_entries g)) (idle (with_group s g) next.Stanza) u refl (10 ∷ rest) refl closes (newline (idle (with_group s g) next.Stanza) u refl rest all))))
 
 -- ---- a rule
 
@@ -181,14 +181,14 @@ pub record RuleReads (r : LoadedRule) : Type 0 where
   pub utf8 : is_utf8 r.text.bytes ≡ true
   pub balanced : is_balanced r.text.bytes ≡ true
 
-module _ (s : Sketch) (r : LoadedRule) (is : RuleReads r) where
-  abbrev pub with_rule : Sketch
-  with_rule = record s { rules = push_item s.rules (table (rule_members r)) }
+abbrev pub with_rule : Sketch → LoadedRule → Sketch
+with_rule s r = record s { rules = push_item s.rules (table (rule_members r)) }
 
-  pub rule_goes : Goes LineStart (idle s next.Stanza) (rule_text r) LineStart (idle with_rule next.Stanza)
+module _ (s : Sketch) (r : LoadedRule) (is : RuleReads r) where
+  pub rule_goes : Goes LineStart (idle s next.Stanza) (rule_text r) LineStart (idle (with_rule s r) next.Stanza)
   rule_goes =
       let named = now s next.Text (with_member (codes "name") (string r.rule.name) no_members) no_items no_members no_items in
-      let t = idle with_rule next.Stanza in
+      let t = idle (with_rule s r) next.Stanza in
       by_chain LineStart LineStart (idle s next.Stanza) t (codes "ltm rule " ∷ (r.rule.name ∷ (codes " {" ∷ (r.text.bytes ∷ (codes "}\n" ∷ [])))))
       (λ rest u all.
         let inside = 123 ∷ (r.text.bytes ++ (125 ∷ (10 ∷ rest))) in

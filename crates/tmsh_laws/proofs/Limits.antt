@@ -16,7 +16,7 @@ use Rattle.tmsh_read.specs.Reading as reading
 use Rattle.tmsh_read.specs.Sketch.{Sketch, stored}
 use Rattle.tmsh_read.specs.Tables.{with_member}
 use Rattle.tmsh_read.proofs.GapKinds.{LineStart, Within}
-use Rattle.tmsh_read.proofs.Kinds.{Item, Next}
+use Rattle.tmsh_read.proofs.ReaderTypes.{Item, Next}
 use Rattle.tmsh_read.proofs.ItemKinds as item_
 use Rattle.tmsh_read.proofs.NextKinds as next
 use Rattle.tmsh_read.proofs.BlockKinds as block

@@ -8,7 +8,7 @@ use Rattle.tmsh_read.specs.Grammar.{step}
 use Rattle.tmsh_read.specs.Reading.{wants_text}
 use Rattle.tmsh_read.specs.Sketch.{Sketch}
 use Rattle.tmsh_read.specs.Tables.{with_member}
-use Rattle.tmsh_read.proofs.Kinds.{Gap}
+use Rattle.tmsh_read.proofs.ReaderTypes.{Gap}
 use Rattle.tmsh_read.proofs.GapKinds.{LineStart, Within}
 use Rattle.tmsh_read.proofs.TokenKinds.{Open, Close, Run}
 use Rattle.tmsh_text.specs.Items.{item, joined, number_item, short_item}

@@ -19,7 +19,7 @@ use Rattle.tmsh_read.specs.Items.{number, number_with}
 use Rattle.tmsh_read.specs.Quoted.{Read, behind, by_quoting, escape_after, high_after, low_after, plain_after, unquoted}
 use Rattle.tmsh_read.specs.Tokens.{braced_found, found_in, gap_after, gap_len, is_mark, plain_found, quoted_found, quoted_token, run_found, run_len, run_of, shifted, token_at}
 use Rattle.tmsh_read.specs.declared.braced.Braces.{Braces}
-use Rattle.tmsh_read.proofs.Kinds.{Found, Gap, Token}
+use Rattle.tmsh_read.proofs.ReaderTypes.{Found, Gap, Token}
 use Rattle.tmsh_read.proofs.GapKinds.{Within}
 use Rattle.tmsh_read.proofs.QuoteKinds.{Adds, Breaks, Goes, High, Low, Plain}
 use Rattle.tmsh_read.proofs.TokenKinds.{Run, Quoted, Braced}
@@ -50,8 +50,8 @@ module _ (rest : List ℕ) where
       by_escape b.escaped b.depth parts.0 parts.1
     where
       by_escape : (escaped : Bool) (d : ℕ) → eqb d 0 ≡ true → not escaped ≡ true → braced_len (record { depth = d; escaped = escaped }) (125 ∷ rest) ≡ Some 0
-      by_escape true d is no = absurd (false≢true no)
-      by_escape false d is no = rw is refl
+      by_escape true d is shut = absurd (false≢true shut)
+      by_escape false d is shut = rw is refl
 
   more : (o : Option Braces) (bytes : List ℕ) → ((next : Braces) → balances next bytes ≡ true → braced_len next (bytes ++ (125 ∷ rest)) ≡ Some (length bytes))
       → option_map_or (λ next. balances next bytes) o false ≡ true
@@ -121,11 +121,11 @@ pub run_found_back : (g : Gap) (b : ℕ) (text : List ℕ) (mark : ℕ) (rest : 
     → is_mark mark ≡ true → plain_found g ((b ∷ text) ++ (mark ∷ rest)) ≡ token_of (Run (b ∷ text)) (length (b ∷ text))
 run_found_back g b text mark rest begins utf8 plain is =
     let parts = and_parts (not (is_mark b)) (is_plain text) plain in
-    let no = no_mark b (not_mark b parts.0) in
+    let marks = no_mark b (not_mark b parts.0) in
     let all = b ∷ (text ++ (mark ∷ rest)) in
     let n = length (b ∷ text) in
     let gap : gap_len g all ≡ 0 = rw begins refl in
-    let token : token_at all ≡ run_found all = rw (no.open_, no.close, no.quote) refl in
+    let token : token_at all ≡ run_found all = rw (marks.open_, marks.close, marks.quote) refl in
     let some : eqb n 0 ≡ false = grind (arith, nat_tests) in
     let run : run_of all n ≡ token_of (Run (b ∷ text)) n = rw (some, take-append_seam (b ∷ text) (mark ∷ rest), utf8) refl in
     let len : run_found all ≡ run_of all n = ap (run_of all) (run_back (b ∷ text) mark rest plain is) in
@@ -135,8 +135,8 @@ run_found_back g b text mark rest begins utf8 plain is =
 pub begins_within : (b : ℕ) (text : List ℕ) → is_plain (b ∷ text) ≡ true → gap_after Within b ≡ None
 begins_within b text plain =
     let parts = and_parts (not (is_mark b)) (is_plain text) plain in
-    let no = no_mark b (not_mark b parts.0) in
-    rw (no.line, no.space) refl
+    let marks = no_mark b (not_mark b parts.0) in
+    rw (marks.line, marks.space) refl
 
 -- ---- quoted tokens
 
@@ -182,8 +182,8 @@ module _ (b : ℕ) (tail : List ℕ) where
       ap (λ q. behind [] 1 (by_quoting q (λ next. unquoted next tail))) adds ∙ behinds [] (b ∷ []) 1 1 after_it
 
   itself_back : (eqb b 34 || eqb b 92) ≡ false → unquoted Plain (b ∷ tail) ≡ behind (b ∷ []) 1 after_it
-  itself_back no =
-      let parts = or_parts (eqb b 34) (eqb b 92) no in
+  itself_back other =
+      let parts = or_parts (eqb b 34) (eqb b 92) other in
       let adds : plain_after b ≡ Adds b = rw (parts.0, parts.1) refl in
       ap (λ q. by_quoting q (λ next. unquoted next tail)) adds
 

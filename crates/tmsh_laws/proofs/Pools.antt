@@ -19,7 +19,7 @@ use Rattle.tmsh_read.specs.Items.{item_of, number}
 use Rattle.tmsh_read.specs.Sketch.{Sketch, closed, has, stored, to}
 use Rattle.tmsh_read.specs.Tables.{with_member}
 use Rattle.tmsh_read.proofs.GapKinds.{LineStart, Within}
-use Rattle.tmsh_read.proofs.Kinds.{Item}
+use Rattle.tmsh_read.proofs.ReaderTypes.{Item}
 use Rattle.tmsh_read.proofs.ItemKinds as item_
 use Rattle.tmsh_read.proofs.NextKinds as next
 use Rattle.tmsh_read.proofs.BlockKinds as block
@@ -167,6 +167,9 @@ pub record PoolReads (p : PoolSettings) : Type 0 where
   pub active : IsRun (decimal p.min_active)
   pub members : Each MemberReads p.members
 
+abbrev pub with_pool : Sketch → PoolSettings → Sketch
+with_pool s p = record s { pools = push_item s.pools (table (pool_members p)) }
+
 module _ (s : Sketch) (p : PoolSettings) (is : PoolReads p) where
   abbrev at : Entries → Sketch
   at es = among s block.Pool (puts es no_members)
@@ -184,9 +187,6 @@ module _ (s : Sketch) (p : PoolSettings) (is : PoolReads p) where
       (piece (at e2) (at e3) last p2 (p3 ∷ []) (active_goes s (puts e2 no_members) p.min_active is.small is.active (lacks (codes "min_active") e2 refl))
       (piece (at e3) last last p3 [] (members_go s (puts e3 no_members) p.members is.members (lacks (codes "members") e3 refl)) (nothing LineStart last)))
 
-  abbrev pub with_pool : Sketch
-  with_pool = record s { pools = push_item s.pools (table (pool_members p)) }
-
-  pub pool_goes : Goes LineStart (idle s next.Stanza) (pool_text p) LineStart (idle with_pool next.Stanza)
+  pub pool_goes : Goes LineStart (idle s next.Stanza) (pool_text p) LineStart (idle (with_pool s p) next.Stanza)
   pool_goes =
-      stanza_goes s with_pool block.Pool section.Pool (codes "pool") p.name (pool_items p) (pool_members p) refl (run_of (codes "pool") refl) refl is.name items_go refl
+      stanza_goes s (with_pool s p) block.Pool section.Pool (codes "pool") p.name (pool_items p) (pool_members p) refl (run_of (codes "pool") refl) refl is.name items_go refl

@@ -5,13 +5,14 @@ use Rattle.std.proofs.lemmas.Bool.{and_parts, false≢true}
 use Rattle.std.proofs.lemmas.Bool.Decides.{nat_tests}
 use Rattle.std.specs.Prelude.{if◌then◌else◌}
 use Rattle.std.specs.Str.{is_utf8}
+use Rattle.tmsh_laws.proofs.Ascii.{is_small, small_is}
 use Rattle.tmsh_laws.proofs.Marks.{begins_within, plain_there, printed_token, rule_text_back, run_found_back, token_of, word_back}
 use Rattle.tmsh_read.proofs.FirstFaulty.{NoToken, no_token, refused}
 use Rattle.tmsh_read.specs.Grammar.{step}
 use Rattle.tmsh_read.specs.Reading.{Move, ends, stops, goes, Reads, ended, stopped, gone, answer, is_end, moved_by, stepped, wants_text}
 use Rattle.tmsh_read.specs.Sketch.{Sketch}
 use Rattle.tmsh_read.specs.Tokens.{found_in, gap_after, gap_len, is_mark, plain_found, token_at}
-use Rattle.tmsh_read.proofs.Kinds.{Found, Gap, Next, Token}
+use Rattle.tmsh_read.proofs.ReaderTypes.{Found, Gap, Next, Token}
 use Rattle.tmsh_read.proofs.GapKinds.{LineStart, Within}
 use Rattle.tmsh_read.proofs.TokenKinds.{Open, Close, Run, Quoted, Braced}
 use Rattle.tmsh_text.specs.Braces.{is_balanced}
@@ -26,15 +27,15 @@ pub record IsRun (w : List ℕ) : Type 0 where
   pub plain : is_plain w ≡ true
   pub utf8 : is_utf8 w ≡ true
 
-pub run_of : (w : List ℕ) → (not (eqb (length w) 0) && (is_plain w && is_utf8 w)) ≡ true → IsRun w
+pub run_of : (w : List ℕ) → (not (eqb (length w) 0) && (is_plain w && is_small w)) ≡ true → IsRun w
 run_of w e =
-    let one = and_parts (not (eqb (length w) 0)) (is_plain w && is_utf8 w) e in
-    let two = and_parts (is_plain w) (is_utf8 w) one.1 in
-    record { some = by_test (eqb (length w) 0) one.0; plain = two.0; utf8 = two.1 }
+    let one = and_parts (not (eqb (length w) 0)) (is_plain w && is_small w) e in
+    let two = and_parts (is_plain w) (is_small w) one.1 in
+    record { some = by_test (eqb (length w) 0) one.0; plain = two.0; utf8 = small_is w two.1 }
   where
     by_test : (x : Bool) → not x ≡ true → x ≡ false
-    by_test true no = absurd (false≢true no)
-    by_test false no = refl
+    by_test true shut = absurd (false≢true shut)
+    by_test false shut = refl
 
 -- ---- a byte between tokens
 

@@ -19,7 +19,7 @@ use Rattle.tmsh_read.specs.Items.{item_of, key_of, number}
 use Rattle.tmsh_read.specs.Sketch.{Sketch, closed, has, stored, to}
 use Rattle.tmsh_read.specs.Tables.{with_member}
 use Rattle.tmsh_read.proofs.GapKinds.{LineStart, Within}
-use Rattle.tmsh_read.proofs.Kinds.{Block, Item}
+use Rattle.tmsh_read.proofs.ReaderTypes.{Block, Item}
 use Rattle.tmsh_read.proofs.ItemKinds as item_
 use Rattle.tmsh_read.proofs.NextKinds as next
 use Rattle.tmsh_read.proofs.BlockKinds as block
@@ -135,7 +135,7 @@ module _ (s : Sketch) (m : Members) where
       (keyword s block.Server item_.Listen (codes "destination") m refl none) refl
 
   http_goes : (http : Bool) → is_some (get_member (codes "http") m) ≡ false → Goes LineStart (server m) (http_item http) LineStart (server (put (codes "http") (http_entry http) m))
-  http_goes false none = nothing LineStart (server m)
+  http_goes false none rest u all = all
   http_goes true none rest u all =
       let v = value s item_.Http m in
       let h = now s next.Http m no_items no_members no_items in
@@ -193,6 +193,9 @@ lacks k es e = ap is_some (get_puts k es no_members ∙ e)
 pub contains : (k : List ℕ) (es : Entries) (d : Data) → found k es None ≡ Some d → is_some (get_member k (puts es no_members)) ≡ true
 contains k es d e = ap is_some (get_puts k es no_members ∙ e)
 
+abbrev pub with_server : Sketch → VirtualSettings → Sketch
+with_server s v = record s { servers = push_item s.servers (table (server_members v)) }
+
 module _ (s : Sketch) (v : VirtualSettings) (is : ServerReads v) where
   abbrev at : Entries → Sketch
   at es = among s block.Server (puts es no_members)
@@ -219,11 +222,8 @@ module _ (s : Sketch) (v : VirtualSettings) (is : ServerReads v) where
       (piece (at e5) (at e6) last p5 (p6 ∷ []) (timeout_goes s (puts e5 no_members) v.persist_timeout is.small is.timeout (lacks (codes "persist_timeout") e5 refl))
       (piece (at e6) last last p6 [] (rules_go s (puts e6 no_members) v.rules is.rules (lacks (codes "rules") e6 refl)) (nothing LineStart last))))))
 
-  abbrev pub with_server : Sketch
-  with_server = record s { servers = push_item s.servers (table (server_members v)) }
-
-  pub server_goes : Goes LineStart (idle s next.Stanza) (server_text v) LineStart (idle with_server next.Stanza)
+  pub server_goes : Goes LineStart (idle s next.Stanza) (server_text v) LineStart (idle (with_server s v) next.Stanza)
   server_goes =
       let whole : is_some (get_member (codes "listen") (server_members v)) ≡ true = contains (codes "listen") (server_entries v) (string (addr_text v.listen)) refl in
-      stanza_goes s with_server block.Server section.Server (codes "virtual") v.name (server_items v) (server_members v) refl (run_of (codes "virtual") refl) refl is.name items_go
+      stanza_goes s (with_server s v) block.Server section.Server (codes "virtual") v.name (server_items v) (server_members v) refl (run_of (codes "virtual") refl) refl is.name items_go
       (ap (λ x. if x then Some (closed block.Server (at (server_entries v))) else None) whole)

@@ -7,13 +7,13 @@ use Rattle.toml.specs.Data.{Data, string, integer, boolean, array, table, Items,
 use Rattle.px_bytes.specs.Address.{addr_text}
 use Rattle.tmsh_laws.proofs.Lines.{Each, Goes, Plain, all_go, blank, both, by_chain, ends_line, indent, indent_twice, item_goes, newline, nothing, number_entry, put, unless_usual}
 use Rattle.tmsh_laws.proofs.Marks.{number_back}
-use Rattle.tmsh_laws.proofs.Reading.{IsRun, ReadsAll, close_all, open_all, run_all, run_within}
+use Rattle.tmsh_laws.proofs.Reading.{IsRun, ReadsAll, close_all, open_all, run_all, run_of, run_within}
 use Rattle.tmsh_read.specs.Grammar.{step}
 use Rattle.tmsh_read.specs.Items.{item_of, block_of, key_of, number, shape_of}
 use Rattle.tmsh_read.specs.Sketch.{Sketch, begun, closed, has, is_whole, to}
 use Rattle.tmsh_read.specs.Stanzas.{after_name, section_word}
 use Rattle.tmsh_read.specs.Tables.{with_member}
-use Rattle.tmsh_read.proofs.Kinds.{Block, Gap, Item, Next, Section}
+use Rattle.tmsh_read.proofs.ReaderTypes.{Block, Gap, Item, Next, Section}
 use Rattle.tmsh_read.proofs.GapKinds.{LineStart, Within}
 use Rattle.tmsh_read.proofs.ItemKinds as item_
 use Rattle.tmsh_read.proofs.NextKinds as next
@@ -58,7 +58,7 @@ module _ (s u : Sketch) where
   -- `ltm` and a blank
   pub ltm_all : (rest : List ℕ) → ReadsAll Within (idle s next.Section) rest u → ReadsAll LineStart (idle s next.Stanza) (108 ∷ (116 ∷ (109 ∷ (32 ∷ rest)))) u
   ltm_all rest more =
-      run_all LineStart (idle s next.Stanza) (idle s next.Section) u refl 108 (116 ∷ (109 ∷ [])) 32 rest refl (record { some = refl; plain = refl; utf8 = refl }) refl refl
+      run_all LineStart (idle s next.Stanza) (idle s next.Section) u refl 108 (116 ∷ (109 ∷ [])) 32 rest refl (run_of (108 ∷ (116 ∷ (109 ∷ []))) refl) refl refl
       (blank (idle s next.Section) u refl rest more)
 
   -- the name, a blank, a brace and the line's end

@@ -1,5 +1,5 @@
 -- What is printed is UTF-8.
-use Rattle.std.proofs.Common.{◌≡◌, ℕ, suc, ◌+◌, ◌/◌, ◌%◌, ◌<◌, ◌≤◌, Bool, true, false, not, ◌&&◌, ◌||◌, eqb, ltb, List, [], ◌∷◌, ◌++◌, append_assoc, append-nil, length, get_or, inl, inr, refl, sym, ap, ap₂, subst, ◌∙◌, arith}
+use Rattle.std.proofs.Common.{◌≡◌, ℕ, zero, suc, ◌+◌, ◌/◌, ◌%◌, ◌<◌, ◌≤◌, Bool, true, false, not, ◌&&◌, ◌||◌, eqb, ltb, List, [], ◌∷◌, ◌++◌, append_assoc, append-nil, length, get_or, inl, inr, refl, sym, ap, ap₂, subst, ◌∙◌, arith}
 use Rattle.std.proofs.lemmas.Bool.{and_parts, cases_Bool, false≢true, ltb-true}
 use Rattle.std.proofs.lemmas.Bool.Decides.{nat_tests}
 use Rattle.std.proofs.lemmas.Str.{IsUtf8-append, IsUtf8-encode, IsUtf8-from_ascii, IsUtf8-from_is_utf8, IsUtf8-nil, encode_ascii, inside_one, is_utf8-from_IsUtf8}
@@ -7,12 +7,13 @@ use Rattle.std.specs.Char.{digit_char, encode_utf8}
 use Rattle.std.specs.Prelude.{IsUtf8, IsAscii, codes, encode_utf8_all, flat_map, if◌then◌else◌}
 use Rattle.std.specs.Str.{all_scalars, is_utf8}
 use Rattle.px_bytes.specs.Hexadecimal.{hex_text}
+use Rattle.tmsh_laws.proofs.Ascii.{is_small, one_byte, small_utf8}
 use Rattle.tmsh_laws.proofs.Lines.{Each}
 use Rattle.tmsh_text.specs.Items.{joined}
 use Rattle.tmsh_text.specs.Words.{is_plain, quoted, quoted_byte, quoted_bytes, word}
 
-pub literal : (w : List ℕ) → is_utf8 w ≡ true → IsUtf8 w
-literal w e = IsUtf8-from_is_utf8 w e
+pub literal : (w : List ℕ) → is_small w ≡ true → IsUtf8 w
+literal w e = small_utf8 w e
 
 pub utf8_joined : (ps : List (List ℕ)) → Each IsUtf8 ps → IsUtf8 (joined ps)
 utf8_joined [] each = IsUtf8-nil
@@ -27,13 +28,6 @@ utf8_if true a b p q = p
 utf8_if false a b p q = q
 
 -- ---- words in quotes
-
-ascii_one : (b : ℕ) → b < 128 → IsAscii (b ∷ [])
-ascii_one b h 0 = h
-ascii_one b h (suc i) = omega arith
-
-pub one_byte : (b : ℕ) → b < 128 → IsUtf8 (b ∷ [])
-one_byte b h = IsUtf8-from_ascii (b ∷ []) (ascii_one b h)
 
 digit_by : (h : ℕ) → h < 16 → (x : Bool) → ltb h 10 ≡ x → (if x then 48 + h else 87 + h) < 128
 digit_by h small true e = omega (arith, small)

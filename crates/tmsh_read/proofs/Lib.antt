@@ -5,11 +5,11 @@ pub mod FirstFaulty
 pub mod GapKinds
 pub mod GoesOn
 pub mod ItemKinds
-pub mod Kinds
 pub mod Members
 pub mod NextKinds
 pub mod Numbers
 pub mod OneReading
 pub mod QuoteKinds
+pub mod ReaderTypes
 pub mod SectionKinds
 pub mod TokenKinds
