@@ -23,13 +23,9 @@ use Rattle.config.specs.declared.config.PoolSettings.{PoolSettings}
 use Rattle.config.specs.declared.config.Settings.{Settings}
 use Rattle.config.specs.declared.config.VirtualSettings.{VirtualSettings}
 use Rattle.config.specs.declared.fault.ConfigFault.{ConfigFault}
-use Rattle.config.specs.declared.misplaced.Misplaced.{Misplaced}
+use Rattle.config.proofs.DocumentTypes.{Group, Misplaced, One, Pool, Rule, Section, Two, Version, Virtual, by_version}
 use Rattle.config.specs.declared.reader.LoadedConfig.{LoadedConfig}
 use Rattle.config.specs.declared.rule_text.LoadedRule.{LoadedRule}
-use Rattle.config.specs.declared.section.Section.{Section}
-use Rattle.config.specs.declared.section.Section.TheVariants.{Virtual, Pool, Rule, Group}
-use Rattle.config.specs.declared.version.Version.{Version}
-use Rattle.config.specs.declared.version.Version.TheVariants.{One, Two}
 use Rattle.tmsh_laws.proofs.GroupKept.{GroupKept, all_rules_kept, all_still_loaded, group_kept, rules_long, rules_places}
 use Rattle.tmsh_laws.proofs.Kept.{Flawless, InRange, all_known, array_ok, array_says, at_key, each_keys, flawless, has_none, keys_each, no_back, no_front, none, none_told, number_ok, number_says, range_is, range_of, whole_kept}
 use Rattle.tmsh_laws.proofs.Lines.{Each, number_entry}
@@ -90,8 +86,8 @@ pub record TopParts (ms : Members) : Type 0 where
   pub rules : Flawless ms key.rules
   pub groups : Flawless ms key.groups
 
-pub top_parts : (v : Version) (ms : Members) → keys_faults [] (top_keys v) ms ≡ [] → unknown_faults [] (top_keys v) ms ≡ [] → TopParts ms
-top_parts One ms e unknown =
+top_one : (ms : Members) → keys_faults [] (top_keys One) ms ≡ [] → unknown_faults [] (top_keys One) ms ≡ [] → TopParts ms
+top_one ms e unknown =
     let k = keys_each [] (top_keys One) ms e in
     record {
       budget = k.1.0;
@@ -103,7 +99,9 @@ top_parts One ms e unknown =
       rules = k.1.1.1.1.1.1.0;
       groups = k.1.1.1.1.1.1.1.0;
     }
-top_parts Two ms e unknown =
+
+top_two : (ms : Members) → keys_faults [] (top_keys Two) ms ≡ [] → unknown_faults [] (top_keys Two) ms ≡ [] → TopParts ms
+top_two ms e unknown =
     let k = keys_each [] (top_keys Two) ms e in
     record {
       budget = k.1.0;
@@ -115,6 +113,10 @@ top_parts Two ms e unknown =
       rules = k.1.1.1.1.1.1.1.0;
       groups = k.1.1.1.1.1.1.1.1.0;
     }
+
+pub top_parts : (v : Version) (ms : Members) → keys_faults [] (top_keys v) ms ≡ [] → unknown_faults [] (top_keys v) ms ≡ [] → TopParts ms
+top_parts v ms e unknown =
+    by_version (λ w. keys_faults [] (top_keys w) ms ≡ [] → unknown_faults [] (top_keys w) ms ≡ [] → TopParts ms) (top_one ms) (top_two ms) v e unknown
 
 -- ---- events
 

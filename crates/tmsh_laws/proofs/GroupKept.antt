@@ -31,9 +31,8 @@ use Rattle.config.specs.Values.{items_length, judged}
 use Rattle.config.specs.declared.config.GroupSettings.{GroupSettings}
 use Rattle.config.specs.declared.fault.ConfigFault.{ConfigFault}
 use Rattle.config.specs.declared.fault.ConfigFaultKind.TheVariants.{Range}
-use Rattle.config.specs.declared.key.Form.TheVariants.{Name}
+use Rattle.config.proofs.DocumentTypes.{Name, Rule}
 use Rattle.config.specs.declared.rule_text.LoadedRule.{LoadedRule}
-use Rattle.config.specs.declared.section.Section.TheVariants.{Rule}
 use Rattle.tmsh_laws.proofs.Kept.{Flawless, all_known, array_ok, array_says, at_key, each_keys, flawless, keys_each, no_back, no_flaw, no_front, none, required_text, same_twice}
 use Rattle.tmsh_laws.proofs.Lines.{Each}
 use Rattle.tmsh_laws.proofs.Tables.{array_entry, group_entries, group_members, kind_word, row_items, rows_items, rule_entries, rule_members, tables}

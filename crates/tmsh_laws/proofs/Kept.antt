@@ -26,8 +26,7 @@ use Rattle.config.specs.Values.{few, in_range, items_length, judged}
 use Rattle.config.specs.declared.fault.ConfigFault.{ConfigFault}
 use Rattle.config.specs.declared.fault.ConfigFaultKind.{ConfigFaultKind}
 use Rattle.config.specs.declared.fault.ConfigFaultKind.TheVariants.{NoSuch, Range, Twice}
-use Rattle.config.specs.declared.key.Form.{Form}
-use Rattle.config.specs.declared.key.Form.TheVariants.{Any, Address}
+use Rattle.config.proofs.DocumentTypes.{Address, Any, Form}
 use Rattle.tmsh_laws.proofs.Lines.{Each, number_entry, put}
 use Rattle.tmsh_laws.proofs.Lookups.{found, get_puts, or_else, or_nothing}
 use Rattle.tmsh_laws.proofs.Tables.{Entries, array_entry, puts}
@@ -53,11 +52,11 @@ no_flaw place (Some kind) e = cc
 -- one that is told stays told
 still_told : (faults : List ConfigFault) (f : ConfigFault) → fold better (Some f) faults ≡ None → Unit {0} × ⊥
 still_told [] f e = absurd (cc)
-still_told (g ∷ faults) f e = by_test (comes_first g.kind (Some f)) e
+still_told (g ∷ faults) f e = by_test (comes_first g.kind (Some f)) (still_told faults) e
   where
-    by_test : (x : Bool) → fold better (if x then Some g else Some f) faults ≡ None → Unit {0} × ⊥
-    by_test true e = still_told faults g e
-    by_test false e = still_told faults f e
+    by_test : (x : Bool) → ((h : ConfigFault) → fold better (Some h) faults ≡ None → Unit {0} × ⊥) → fold better (if x then Some g else Some f) faults ≡ None → Unit {0} × ⊥
+    by_test true more e = more g e
+    by_test false more e = more f e
 
 nothing_told : (faults : List ConfigFault) → told_of faults ≡ None → faults ≡ []
 nothing_told [] e = refl

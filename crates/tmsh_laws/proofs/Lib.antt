@@ -10,8 +10,8 @@ pub mod Marks
 pub mod PoolKept
 pub mod Pools
 pub mod Printable
+pub mod Readable
 pub mod Reading
-pub mod Reads
 pub mod RoundTrip
 pub mod Runs
 pub mod ServerKept

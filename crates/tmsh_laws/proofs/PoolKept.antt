@@ -28,9 +28,7 @@ use Rattle.config.specs.Values.{items_length}
 use Rattle.config.specs.declared.config.PoolSettings.{PoolSettings}
 use Rattle.config.specs.declared.fault.ConfigFault.{ConfigFault}
 use Rattle.config.specs.declared.fault.ConfigFaultKind.TheVariants.{UnknownKey, WrongKind}
-use Rattle.config.specs.declared.key.Form.TheVariants.{Address, Name}
-use Rattle.config.specs.declared.version.Version.{Version}
-use Rattle.config.specs.declared.version.Version.TheVariants.{One, Two}
+use Rattle.config.proofs.DocumentTypes.{Address, Name, One, Two, Version, by_version}
 use Rattle.tmsh_laws.proofs.Kept.{Flawless, InRange, addr_back, all_known, array_ok, array_says, at_key, each_keys, flawless, keys_each, no_back, no_front, none, number_ok, number_says, required_text, same_twice, whole_kept}
 use Rattle.tmsh_laws.proofs.Lines.{Each, number_entry}
 use Rattle.tmsh_laws.proofs.Tabled.{all_kept, all_say, anew, as_many, as_many_tables, from, same_places, told}
@@ -70,8 +68,8 @@ pub record MemberParts (own : List ℕ → Option ℕ) (prefix : List ℕ) (at :
   pub priority : Flawless ms key.priority
   pub once : once_faults own at prefix key.addr ms ≡ []
 
-pub member_parts : (v : Version) (own : List ℕ → Option ℕ) (prefix : List ℕ) (at : ℕ) (ms : Members) → member_faults v own prefix at ms ≡ [] → MemberParts own prefix at ms
-member_parts One own prefix at ms e =
+member_one : (own : List ℕ → Option ℕ) (prefix : List ℕ) (at : ℕ) (ms : Members) → member_faults One own prefix at ms ≡ [] → MemberParts own prefix at ms
+member_one own prefix at ms e =
     let keys = keys_faults prefix (member_keys One) ms in
     let unknown = unknown_faults prefix (member_keys One) ms in
     let each = keys_each prefix (member_keys One) ms (no_front keys _ e) in
@@ -82,7 +80,9 @@ member_parts One own prefix at ms e =
       priority = ap (flaw_of key.priority) (absent prefix (member_keys One) key.priority.name ms refl (no_front unknown _ behind));
       once = no_back unknown (once_faults own at prefix key.addr ms) behind;
     }
-member_parts Two own prefix at ms e =
+
+member_two : (own : List ℕ → Option ℕ) (prefix : List ℕ) (at : ℕ) (ms : Members) → member_faults Two own prefix at ms ≡ [] → MemberParts own prefix at ms
+member_two own prefix at ms e =
     let keys = keys_faults prefix (member_keys Two) ms in
     let unknown = unknown_faults prefix (member_keys Two) ms in
     let each = keys_each prefix (member_keys Two) ms (no_front keys _ e) in
@@ -92,6 +92,10 @@ member_parts Two own prefix at ms e =
       priority = each.1.1.0;
       once = no_back unknown (once_faults own at prefix key.addr ms) (no_back keys _ e);
     }
+
+pub member_parts : (v : Version) (own : List ℕ → Option ℕ) (prefix : List ℕ) (at : ℕ) (ms : Members) → member_faults v own prefix at ms ≡ [] → MemberParts own prefix at ms
+member_parts v own prefix at ms e =
+    by_version (λ w. member_faults w own prefix at ms ≡ [] → MemberParts own prefix at ms) (member_one own prefix at ms) (member_two own prefix at ms) v e
 
 record MemberKept (own : List ℕ → Option ℕ) (prefix : List ℕ) (at : ℕ) (ms : Members) : Type 0 where
   faultless : member_faults Two own prefix at (member_members (member_of ms)) ≡ []
@@ -250,30 +254,34 @@ pub record PoolParts (v : Version) (pools : List ℕ → Option ℕ) (prefix : L
   pub once : once_faults pools at prefix key.name_key ms ≡ []
   pub its : members_of v prefix (array_at key.members ms) ≡ []
 
+module _ (pools : List ℕ → Option ℕ) (prefix : List ℕ) (at : ℕ) (ms : Members) where
+  pool_one : pool_keys_faults One prefix ms ≡ [] → once_faults pools at prefix key.name_key ms ≡ [] → members_of One prefix (array_at key.members ms) ≡ [] → PoolParts One pools prefix at ms
+  pool_one keys once its =
+      let all = pool_keys One (member_count ms) in
+      let each = keys_each prefix all ms (no_front (keys_faults prefix all ms) _ keys) in
+      let unknown : unknown_faults prefix all ms ≡ [] = no_back (keys_faults prefix all ms) _ keys in
+      record {
+        name = each.0;
+        method = each.1.0;
+        members = each.1.1.0;
+        active = ap (flaw_of (min_active (member_count ms))) (absent prefix all (min_active (member_count ms)).name ms refl unknown);
+        once = once;
+        its = its;
+      }
+
+  pool_two : pool_keys_faults Two prefix ms ≡ [] → once_faults pools at prefix key.name_key ms ≡ [] → members_of Two prefix (array_at key.members ms) ≡ [] → PoolParts Two pools prefix at ms
+  pool_two keys once its =
+      let all = pool_keys Two (member_count ms) in
+      let each = keys_each prefix all ms (no_front (keys_faults prefix all ms) _ keys) in
+      record { name = each.0; method = each.1.0; members = each.1.1.0; active = each.1.1.1.0; once = once; its = its }
+
 pub pool_parts : (v : Version) (pools : List ℕ → Option ℕ) (prefix : List ℕ) (at : ℕ) (ms : Members) → pool_faults v pools prefix at ms ≡ [] → PoolParts v pools prefix at ms
 pool_parts v pools prefix at ms e =
     let of_keys = pool_keys_faults v prefix ms in
     let once = once_faults pools at prefix key.name_key ms in
     let its = members_of v prefix (array_at key.members ms) in
-    by_version v (no_front of_keys _ e) (no_front once its (no_back of_keys _ e)) (no_back once its (no_back of_keys _ e))
-  where
-    by_version : (w : Version) → pool_keys_faults w prefix ms ≡ [] → once_faults pools at prefix key.name_key ms ≡ [] → members_of w prefix (array_at key.members ms) ≡ [] → PoolParts w pools prefix at ms
-    by_version One keys once its =
-        let all = pool_keys One (member_count ms) in
-        let each = keys_each prefix all ms (no_front (keys_faults prefix all ms) _ keys) in
-        let unknown : unknown_faults prefix all ms ≡ [] = no_back (keys_faults prefix all ms) _ keys in
-        record {
-          name = each.0;
-          method = each.1.0;
-          members = each.1.1.0;
-          active = ap (flaw_of (min_active (member_count ms))) (absent prefix all (min_active (member_count ms)).name ms refl unknown);
-          once = once;
-          its = its;
-        }
-    by_version Two keys once its =
-        let all = pool_keys Two (member_count ms) in
-        let each = keys_each prefix all ms (no_front (keys_faults prefix all ms) _ keys) in
-        record { name = each.0; method = each.1.0; members = each.1.1.0; active = each.1.1.1.0; once = once; its = its }
+    by_version (λ w. pool_keys_faults w prefix ms ≡ [] → once_faults pools at prefix key.name_key ms ≡ [] → members_of w prefix (array_at key.members ms) ≡ [] → PoolParts w pools prefix at ms)
+    (pool_one pools prefix at ms) (pool_two pools prefix at ms) v (no_front of_keys _ e) (no_front once its (no_back of_keys _ e)) (no_back once its (no_back of_keys _ e))
 
 pub record PoolKept (pools : List ℕ → Option ℕ) (prefix : List ℕ) (at : ℕ) (ms : Members) : Type 0 where
   pub faultless : pool_faults Two pools prefix at (pool_members (pool_of ms)) ≡ []
@@ -284,8 +292,8 @@ module _ (v : Version) (pools others : List ℕ → Option ℕ) (same : (t : Lis
   abbrev p : PoolSettings
   p = pool_of ms
 
-  abbrev d : Members
-  d = pool_members p
+  abbrev pd : Members
+  pd = pool_members p
 
   abbrev old : Items
   old = or_none (array_at key.members ms)
@@ -296,22 +304,22 @@ module _ (v : Version) (pools others : List ℕ → Option ℕ) (same : (t : Lis
   old_members : members_from v own prefix 0 old ≡ []
   old_members = members_in v prefix (array_at key.members ms) is.its
 
-  new_name : get_member (codes "name") d ≡ get_member (codes "name") ms
+  new_name : get_member (codes "name") pd ≡ get_member (codes "name") ms
   new_name =
       let (t, there, form) = required_text (codes "name") Name (get_member (codes "name") ms) is.name in
       at_key (pool_entries p) (codes "name") (Some (string p.name)) refl ∙ ap (λ o. Some (string (unwrap_or (option_and_then as_str o) []))) there ∙ sym there
 
-  new_method : get_member (codes "method") d ≡ method_entry p.method
+  new_method : get_member (codes "method") pd ≡ method_entry p.method
   new_method = at_key (pool_entries p) (codes "method") (method_entry p.method) refl
 
-  new_active : get_member (codes "min_active") d ≡ number_entry 0 p.min_active
+  new_active : get_member (codes "min_active") pd ≡ number_entry 0 p.min_active
   new_active = at_key (pool_entries p) (codes "min_active") (number_entry 0 p.min_active) refl
 
-  new_members : get_member (codes "members") d ≡ array_entry (anew_members old)
+  new_members : get_member (codes "members") pd ≡ array_entry (anew_members old)
   new_members = at_key (pool_entries p) (codes "members") (array_entry (anew_members old)) refl
 
   -- as many members as before
-  same_count : member_count d ≡ member_count ms
+  same_count : member_count pd ≡ member_count ms
   same_count =
       ap (λ n. min n 4294967295)
       (ap (λ o. tables_at (option_and_then as_array o)) new_members ∙ count_by (anew_members old) ∙ as_many_tables member_of member_members old ∙ sym (count_in (array_at key.members ms)))
@@ -319,46 +327,46 @@ module _ (v : Version) (pools others : List ℕ → Option ℕ) (same : (t : Lis
   active_in : InRange 0 (member_count ms) 0 p.min_active
   active_in = whole_kept 0 (member_count ms) 0 (codes "min_active") (get_member (codes "min_active") ms) (omega arith, omega arith) is.active
 
-  faultless : pool_faults Two others prefix at d ≡ []
-  faultless =
+  pool_faultless : pool_faults Two others prefix at pd ≡ []
+  pool_faultless =
       let most = member_count ms in
-      let keys : Each (Flawless d) (pool_keys Two most) =
-          (flawless d key.name_key (get_member (codes "name") ms) new_name is.name,
-            (flawless d key.method (method_entry p.method) new_method (method_ok p.method),
-              (flawless d key.members (array_entry (anew_members old)) new_members
+      let keys : Each (Flawless pd) (pool_keys Two most) =
+          (flawless pd key.name_key (get_member (codes "name") ms) new_name is.name,
+            (flawless pd key.method (method_entry p.method) new_method (method_ok p.method),
+              (flawless pd key.members (array_entry (anew_members old)) new_members
                 (array_ok (codes "members") 1000 (get_member (codes "members") ms) (anew_members old) (members_long v own prefix old old_members) is.members),
-                (flawless d (min_active most) (number_entry 0 p.min_active) new_active (number_ok 0 most 0 (codes "min_active") p.min_active active_in), tt)))) in
-      let unknown : unknown_faults prefix (pool_keys Two most) d ≡ [] = all_known prefix (pool_keys Two most) (pool_entries p) no_members (refl, (refl, (refl, (refl, tt)))) refl in
-      let of_keys : pool_keys_faults Two prefix d ≡ [] =
-          subst (λ n. keys_faults prefix (pool_keys Two n) d ++ unknown_faults prefix (pool_keys Two n) d ≡ []) (sym same_count)
-          (none _ _ (each_keys prefix (pool_keys Two most) d keys) unknown) in
-      let its : members_of Two prefix (array_at key.members d) ≡ [] =
+                (flawless pd (min_active most) (number_entry 0 p.min_active) new_active (number_ok 0 most 0 (codes "min_active") p.min_active active_in), tt)))) in
+      let unknown : unknown_faults prefix (pool_keys Two most) pd ≡ [] = all_known prefix (pool_keys Two most) (pool_entries p) no_members (refl, (refl, (refl, (refl, tt)))) refl in
+      let of_keys : pool_keys_faults Two prefix pd ≡ [] =
+          subst (λ n. keys_faults prefix (pool_keys Two n) pd ++ unknown_faults prefix (pool_keys Two n) pd ≡ []) (sym same_count)
+          (none _ _ (each_keys prefix (pool_keys Two most) pd keys) unknown) in
+      let its : members_of Two prefix (array_at key.members pd) ≡ [] =
           ap (λ o. members_of Two prefix (option_and_then as_array o)) new_members ∙ members_by Two prefix (anew_members old)
           ∙ members_kept v own prefix old old_members (first_place (Some key.addr.name) (anew_members old)) (members_places v own prefix old old_members) in
       none _ _ of_keys
       (none _ _ (ap (faults_of (key_place prefix key.name_key.name)) (ap (λ o. twice others at (option_and_then as_str o)) new_name ∙ same_twice others pools same at (text_at key.name_key.name ms)) ∙ is.once) its)
 
-  says_active : whole_at (min_active (member_count d)) d ≡ p.min_active
+  says_active : whole_at (min_active (member_count pd)) pd ≡ p.min_active
   says_active =
-      ap (λ n. whole_or (whole 0 n 0) (option_and_then as_integer (get_member (codes "min_active") d))) same_count
+      ap (λ n. whole_or (whole 0 n 0) (option_and_then as_integer (get_member (codes "min_active") pd))) same_count
       ∙ ap (λ o. whole_or (whole 0 (member_count ms) 0) (option_and_then as_integer o)) new_active ∙ number_says 0 (member_count ms) 0 p.min_active active_in
 
-  says_members : each member_item (or_none (array_at key.members d)) ≡ p.members
+  says_members : each member_item (or_none (array_at key.members pd)) ≡ p.members
   says_members =
       ap (λ o. each member_item (or_none (option_and_then as_array o))) new_members ∙ ap (each member_item) (array_says (anew_members old)) ∙ members_say v own prefix old old_members
 
-  abbrev made : List ℕ → Method → List Member → ℕ → PoolSettings
-  made n k xs a = record { name = n; method = k; members = xs; min_active = a }
+  abbrev pool_made : List ℕ → Method → List Member → ℕ → PoolSettings
+  pool_made n k xs a = record { name = n; method = k; members = xs; min_active = a }
 
   pool_kept_by : PoolKept others prefix at ms
   pool_kept_by = record {
-    faultless = faultless;
+    faultless = pool_faultless;
     says =
-      let n = given key.name_key d in
-      let k = method_of (chosen key.method d) in
-      let xs = each member_item (or_none (array_at key.members d)) in
-      ap (λ a. made n k xs a) says_active ∙ ap (λ x. made n k x p.min_active) says_members ∙ ap (λ x. made n x p.members p.min_active) (ap method_by new_method ∙ method_says p.method)
-      ∙ ap (λ x. made x p.method p.members p.min_active) (ap (λ o. unwrap_or (option_and_then as_str o) []) new_name);
+      let n = given key.name_key pd in
+      let k = method_of (chosen key.method pd) in
+      let xs = each member_item (or_none (array_at key.members pd)) in
+      ap (λ a. pool_made n k xs a) says_active ∙ ap (λ x. pool_made n k x p.min_active) says_members ∙ ap (λ x. pool_made n x p.members p.min_active) (ap method_by new_method ∙ method_says p.method)
+      ∙ ap (λ x. pool_made x p.method p.members p.min_active) (ap (λ o. unwrap_or (option_and_then as_str o) []) new_name);
     name = ap (option_and_then as_str) new_name;
   }
 

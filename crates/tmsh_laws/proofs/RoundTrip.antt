@@ -14,7 +14,7 @@ use Rattle.tmsh_laws.proofs.DocumentKept.{configures, document_parts, faultless}
 use Rattle.tmsh_laws.proofs.Groups.{RowReads}
 use Rattle.tmsh_laws.proofs.Lines.{Each}
 use Rattle.tmsh_laws.proofs.Printable.{printed_utf8}
-use Rattle.tmsh_laws.proofs.Reads.{config_reads}
+use Rattle.tmsh_laws.proofs.Readable.{config_reads}
 use Rattle.tmsh_laws.proofs.Tables.{config_members}
 use Rattle.tmsh_laws.proofs.Whole.{means}
 use Rattle.tmsh_laws.specs.ReadBack.{AllAreTexts, AreTexts, IsReadBack}

@@ -20,7 +20,7 @@ use Rattle.config.specs.Forms.{is_name, is_name_byte}
 use Rattle.config.specs.Keys as key
 use Rattle.config.specs.Settings.{no_addr}
 use Rattle.config.specs.Tables.{flaw_of}
-use Rattle.config.specs.declared.key.Form.TheVariants.{Address}
+use Rattle.config.proofs.DocumentTypes.{Address}
 use Rattle.tmsh_laws.proofs.Ascii.{one_byte}
 use Rattle.tmsh_laws.proofs.Kept.{required_text}
 use Rattle.tmsh_laws.proofs.Limits.{IsNumber}
@@ -153,20 +153,27 @@ good_dot = (good_by 46 (omega arith) (omega arith) refl, tt)
 
 good_ip : (ip : ℕ) → ip < 2 ^ 32 → Each Good (ip_text ip)
 good_ip ip h =
-    let a = good_decimal (ip / 2 ^ 24) (omega (arith, h)) in
-    let b = good_decimal (ip / 2 ^ 16 % 256) (omega (arith, h)) in
-    let c = good_decimal (ip / 2 ^ 8 % 256) (omega (arith, h)) in
-    let d = good_decimal (ip % 256) (omega (arith, h)) in
-    good_both _ _ a (good_both _ _ good_dot (good_both _ _ b (good_both _ _ good_dot (good_both _ _ c (good_both _ _ good_dot d)))))
+    let a = decimal (ip / 2 ^ 24) in
+    let b = decimal (ip / 2 ^ 16 % 256) in
+    let c = decimal (ip / 2 ^ 8 % 256) in
+    let d = decimal (ip % 256) in
+    let dot = codes "." in
+    let to_a : Each Good (a ++ dot) = good_both a dot (good_decimal (ip / 2 ^ 24) (omega (arith, h))) good_dot in
+    let to_b : Each Good (((a ++ dot) ++ b) ++ dot) = good_both ((a ++ dot) ++ b) dot (good_both (a ++ dot) b to_a (good_decimal (ip / 2 ^ 16 % 256) (omega (arith, h)))) good_dot in
+    let to_c : Each Good (((((a ++ dot) ++ b) ++ dot) ++ c) ++ dot) =
+        good_both ((((a ++ dot) ++ b) ++ dot) ++ c) dot (good_both (((a ++ dot) ++ b) ++ dot) c to_b (good_decimal (ip / 2 ^ 8 % 256) (omega (arith, h)))) good_dot in
+    good_both (((((a ++ dot) ++ b) ++ dot) ++ c) ++ dot) d to_c (good_decimal (ip % 256) (omega (arith, h)))
 
 good_addr : (a : Addr) → a.ip < 2 ^ 32 → a.port < 2 ^ 16 → IsRun (addr_text a)
 good_addr a ip port =
-    let digits = good_decimal a.port (omega (arith, port)) in
-    let text = ip_text a.ip ++ (codes ":" ++ decimal a.port) in
-    let some : 0 < length (decimal a.port) = decimal_nonempty a.port (omega (arith, port)) in
-    let size = length-append (ip_text a.ip) (codes ":" ++ decimal a.port) in
-    let long : 0 < length text = omega (arith, size, some, length-append (codes ":") (decimal a.port)) in
-    run_by text (grind (arith, nat_tests, long)) (good_both (ip_text a.ip) (codes ":" ++ decimal a.port) (good_ip a.ip ip) (good_by 58 (omega arith) (omega arith) refl, digits))
+    let digits = decimal a.port in
+    let front = ip_text a.ip ++ codes ":" in
+    let colon : Each Good (codes ":") = (good_by 58 (omega arith) (omega arith) refl, tt) in
+    let some : 0 < length digits = decimal_nonempty a.port (omega (arith, port)) in
+    let size = length-append front digits in
+    let long : 0 < length (front ++ digits) = omega (arith, size, some) in
+    run_by (front ++ digits) (grind (arith, nat_tests, long))
+    (good_both front digits (good_both (ip_text a.ip) (codes ":") (good_ip a.ip ip) colon) (good_decimal a.port (omega (arith, port))))
 
 spelled_run : (t : List ℕ) → spells_addr t (written_addr t) ≡ true → IsRun (addr_text (written_addr t))
 spelled_run t e =

@@ -25,7 +25,7 @@ use Rattle.config.specs.Virtuals.{by_cookie, cookie_faults, rule_faults, rules_f
 use Rattle.config.specs.declared.config.VirtualSettings.{VirtualSettings}
 use Rattle.config.specs.declared.fault.ConfigFault.{ConfigFault}
 use Rattle.config.specs.declared.fault.ConfigFaultKind.TheVariants.{Range}
-use Rattle.config.specs.declared.key.Form.TheVariants.{Address, Name}
+use Rattle.config.proofs.DocumentTypes.{Address, Name}
 use Rattle.tmsh_laws.proofs.Kept.{Flawless, addr_back, all_known, array_ok, array_says, as_string, at_key, each_keys, flawless, keys_each, no_back, no_flaw, no_front, none, number_ok, number_says, optional_text, required_text, same_missing, same_twice, whole_kept}
 use Rattle.tmsh_laws.proofs.Lines.{Each, number_entry}
 use Rattle.tmsh_laws.proofs.Tables.{array_entry, http_entry, names_items, persist_entry, pool_entry, server_entries, server_members}

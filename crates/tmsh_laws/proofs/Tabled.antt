@@ -87,20 +87,20 @@ module _ {A : Type 0} (of : Members → A) (g : A → Members) where
         → (at : ℕ) (ds : Items) → from bad at ds ≡ [] → (t : List ℕ) → is_some (first_from at (Some k) ds t) ≡ true → P t
     found_holds k P holds at no_items e t some = absurd (cc)
     found_holds k P holds at (item d ds) e t some =
-        by_table (as_table d) (no_front (bad at (as_table d)) _ e) some
+        by_table (as_table d) (no_front (bad at (as_table d)) _ e)
+        (λ is. found_holds k P holds (at + 1) ds (no_back (bad at (as_table d)) _ e) t is) some
       where
-        later : is_some (first_from (at + 1) (Some k) ds t) ≡ true → P t
-        later is = found_holds k P holds (at + 1) ds (no_back (bad at (as_table d)) _ e) t is
-
-        by_same : (ms : Members) (u : List ℕ) → bad at (Some ms) ≡ [] → text_at k ms ≡ Some u → (b : Bool) → bytes_eq t u ≡ b
+        by_same : (ms : Members) (u : List ℕ) → bad at (Some ms) ≡ [] → text_at k ms ≡ Some u → (b : Bool) → bytes_eq t u ≡ b → (is_some (first_from (at + 1) (Some k) ds t) ≡ true → P t)
             → is_some (option_or (if b then Some at else None) (first_from (at + 1) (Some k) ds t)) ≡ true → P t
-        by_same ms u here_ is true same some_ = subst P (sym ((bytes_eq-Decides t u).0 same)) (holds at ms u here_ is)
-        by_same ms u here_ is false same some_ = later some_
+        by_same ms u here_ is true same later some_ = subst P (sym ((bytes_eq-Decides t u).0 same)) (holds at ms u here_ is)
+        by_same ms u here_ is false same later some_ = later some_
 
-        by_text : (ms : Members) (o : Option (List ℕ)) → bad at (Some ms) ≡ [] → text_at k ms ≡ o → is_some (option_or (here o t at) (first_from (at + 1) (Some k) ds t)) ≡ true → P t
-        by_text ms None here_ is some_ = later some_
-        by_text ms (Some u) here_ is some_ = by_same ms u here_ is (bytes_eq t u) refl some_
+        by_text : (ms : Members) (o : Option (List ℕ)) → bad at (Some ms) ≡ [] → text_at k ms ≡ o → (is_some (first_from (at + 1) (Some k) ds t) ≡ true → P t)
+            → is_some (option_or (here o t at) (first_from (at + 1) (Some k) ds t)) ≡ true → P t
+        by_text ms None here_ is later some_ = later some_
+        by_text ms (Some u) here_ is later some_ = by_same ms u here_ is (bytes_eq t u) refl later some_
 
-        by_table : (o : Option Members) → bad at o ≡ [] → is_some (option_or (here (option_and_then (text_at k) o) t at) (first_from (at + 1) (Some k) ds t)) ≡ true → P t
-        by_table None here_ some_ = absurd ((refuses at here_).1)
-        by_table (Some ms) here_ some_ = by_text ms (text_at k ms) here_ refl some_
+        by_table : (o : Option Members) → bad at o ≡ [] → (is_some (first_from (at + 1) (Some k) ds t) ≡ true → P t)
+            → is_some (option_or (here (option_and_then (text_at k) o) t at) (first_from (at + 1) (Some k) ds t)) ≡ true → P t
+        by_table None here_ later some_ = absurd ((refuses at here_).1)
+        by_table (Some ms) here_ later some_ = by_text ms (text_at k ms) here_ refl later some_

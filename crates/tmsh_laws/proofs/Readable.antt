@@ -21,10 +21,9 @@ use Rattle.config.specs.declared.config.PoolSettings.{PoolSettings}
 use Rattle.config.specs.declared.config.Settings.{Settings}
 use Rattle.config.specs.declared.config.VirtualSettings.{VirtualSettings}
 use Rattle.config.specs.declared.fault.ConfigFaultKind.TheVariants.{NoSuch}
-use Rattle.config.specs.declared.key.Form.TheVariants.{Name}
+use Rattle.config.proofs.DocumentTypes.{Group, Name, Pool, Rule, Virtual}
 use Rattle.config.specs.declared.reader.LoadedConfig.{LoadedConfig}
 use Rattle.config.specs.declared.rule_text.LoadedRule.{LoadedRule}
-use Rattle.config.specs.declared.section.Section.TheVariants.{Virtual, Pool, Rule, Group}
 use Rattle.config.specs.Forms.{is_name}
 use Rattle.pools.specs.declared.member.Member.{Member}
 use Rattle.tmsh_laws.proofs.DocumentKept.{DocumentParts, bad, budget_in, connections_in, idle_in, prefix_at, refuses, rows_in}
@@ -67,11 +66,12 @@ is_there f t e = by_test (is_some (f t)) e
 module _ (test : List ℕ → Bool) where
   none_such : (at : ℕ) (rs : List LoadedRule) → first_rule test at rs ≡ None → Each (λ r. test r.text.bytes ≡ false) rs
   none_such at [] e = tt
-  none_such at (r ∷ rs) e = by_test (test r.text.bytes) refl e
+  none_such at (r ∷ rs) e = by_test (test r.text.bytes) refl (none_such (at + 1) rs) e
     where
-      by_test : (b : Bool) → test r.text.bytes ≡ b → (if b then Some at else first_rule test (at + 1) rs) ≡ None → Each (λ x. test x.text.bytes ≡ false) (r ∷ rs)
-      by_test true is e = absurd (cc)
-      by_test false is e = (is, none_such (at + 1) rs e)
+      by_test : (b : Bool) → test r.text.bytes ≡ b → (first_rule test (at + 1) rs ≡ None → Each (λ x. test x.text.bytes ≡ false) rs)
+          → (if b then Some at else first_rule test (at + 1) rs) ≡ None → Each (λ x. test x.text.bytes ≡ false) (r ∷ rs)
+      by_test true is more e = absurd (cc)
+      by_test false is more e = (is, more e)
 
 not_false : (b : Bool) → not b ≡ false → b ≡ true
 not_false true e = refl
