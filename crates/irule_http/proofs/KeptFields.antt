@@ -1,13 +1,15 @@
 -- Edits of fields of other names leave those that tell how long a body is.
-use Rattle.std.proofs.Common.{◌≡◌, refl, sym, ap, ◌∙◌, ℕ, zero, suc, ◌+◌, Bool, true, false, true≢false, not, cond, List, [], ◌∷◌, ◌++◌, append-nil, set, codes, Option, Some, None, arith}
-use Rattle.std.specs.List.{flat_map}
+use Rattle.std.proofs.Common.{◌≡◌, refl, sym, ap, ap₂, ◌∙◌, ℕ, zero, suc, ◌+◌, Bool, true, false, true≢false, not, cond, List, [], ◌∷◌, ◌++◌, ◌&&◌, append-nil, set, codes, Option, Some, None, arith}
+use Rattle.std.specs.List.{flat_map, list_all}
+use Rattle.std.proofs.lemmas.Bool.{and_parts}
+use Rattle.http_heads.proofs.LastFields.{all_set}
 use Rattle.std.specs.Str.{bytes_eq}
 use Rattle.std.proofs.lemmas.List.Elements.{filter-append}
 use Rattle.std.proofs.lemmas.Slice.Eq.{bytes_eq-Decides}
 use Rattle.px_bytes.proofs.Tests.{by_cases}
 use Rattle.px_bytes.specs.Letters.{lowered}
 use Rattle.std.specs.Prelude.{slice_get}
-use Rattle.http_heads.specs.Fields.{Pair, field_at, is_named, last_field, last_place, later, named, placed, replaced, without}
+use Rattle.http_heads.specs.Fields.{Pair, field_at, is_field, is_named, last_field, last_place, later, named, placed, replaced, without}
 use Rattle.http_cookies.specs.Cookies.{cookies_in}
 use Rattle.http_cookies.specs.MessageCookies.{cookie_left, field_left, has_called, joined_onto, others, rejoined}
 
@@ -118,3 +120,15 @@ module _ (name : List ℕ) (f : Pair) where
 
 pub last_named : (name : List ℕ) (fs : List Pair) (f : Pair) → last_field name fs ≡ Some f → is_named name f ≡ true
 last_named name fs f is = last_at name f fs is
+
+-- ---- fields that a head may hold
+
+pub all_more : (fs : List Pair) (f : Pair) → list_all is_field fs ≡ true → is_field f ≡ true → list_all is_field (fs ++ f ∷ []) ≡ true
+all_more [] f all is = ap (λ t. t && true) is
+all_more (g ∷ fs) f all is =
+    let both = and_parts (is_field g) (list_all is_field fs) all in
+    ap₂ (λ s t. s && t) both.0 (all_more fs f both.1 is)
+
+pub all_placed : (fs : List Pair) (f : Pair) (last : Option ℕ) → list_all is_field fs ≡ true → is_field f ≡ true → list_all is_field (placed f fs last) ≡ true
+all_placed fs f None all is = all_more fs f all is
+all_placed fs f (Some at) all is = all_set fs at f all is

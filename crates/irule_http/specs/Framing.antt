@@ -2,14 +2,16 @@
 use Rattle.std.specs.Prelude.{◌≡◌, ℕ, List, codes, Option, Some, None, ⊤}
 use Rattle.event_order.specs.declared.event.EventName.{EventName}
 use Rattle.http_heads.specs.Fields.{named}
+use Rattle.http_heads.specs.Laws.{IsRequestHead}
 use Rattle.http_heads.specs.declared.request.RequestHead.{RequestHead}
 use Rattle.http_frames.specs.declared.state.Body.TheVariants as body
 use Rattle.irule_http.specs.Commands.{http_step}
 use Rattle.irule_http.specs.Laws.{left}
 use Rattle.irule_http.specs.declared.state.Http.{Http}
 
--- two heads say the same
+-- a head says the same as another, and is one that its type holds where the other is
 pub record SaysSame (a b : RequestHead) : Type 0 where
+  pub is : IsRequestHead a → IsRequestHead b
   pub version : b.version ≡ a.version
   pub codings : named (codes "transfer-encoding") b.fields ≡ named (codes "transfer-encoding") a.fields
   pub sizes : named (codes "content-length") b.fields ≡ named (codes "content-length") a.fields

@@ -12,3 +12,4 @@ pub use laws::{expired_is_live, live_is_kept, live_store_stays};
 pub use named::{NamedPool, VirtualTime, VirtualTimes};
 pub use named_pools::Pools;
 pub use store::Store;
+pub use words::sleeps_for;

@@ -2,7 +2,7 @@ use Rattle.std.proofs.Common.{sym, ◌∙◌, ap, length}
 use Rattle.core_events.specs.declared.edges.Edge.{Edge}
 use Rattle.core_events.specs.Edges.{may_take}
 use Rattle.proxy_core.proofs.Taking.{may_take_of, queue_length}
-use Rattle.proxy_core.proofs.face.CoreCore.front.Goals as goal
+use Rattle.proxy_core.proofs.face.CoreEventCore.front.Goals as goal
 
 pub returns-in-Some-front-clause-takes : goal.returns-in-Some-front-clause-takes
 returns-in-Some-front-clause-takes c = λ some.

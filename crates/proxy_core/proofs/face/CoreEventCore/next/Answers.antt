@@ -1,5 +1,5 @@
 use Rattle.proxy_core.proofs.Taking.{may_accept_of}
-use Rattle.proxy_core.proofs.face.CoreCore.next.Goals as goal
+use Rattle.proxy_core.proofs.face.CoreEventCore.next.Goals as goal
 
 pub returns-clause-takes : goal.returns-clause-takes
 returns-clause-takes c =

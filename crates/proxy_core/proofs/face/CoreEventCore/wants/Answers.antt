@@ -2,7 +2,7 @@ use Rattle.std.proofs.Common.{sym, ◌∙◌, ap}
 use Rattle.core_events.specs.declared.edges.Edge.{Edge}
 use Rattle.core_events.specs.Edges.{may_send}
 use Rattle.proxy_core.proofs.Taking.{may_come_of}
-use Rattle.proxy_core.proofs.face.CoreCore.wants.Goals as goal
+use Rattle.proxy_core.proofs.face.CoreEventCore.wants.Goals as goal
 
 pub returns-in-Some-wants-clause-takes : goal.returns-in-Some-wants-clause-takes
 returns-in-Some-wants-clause-takes c = λ some.
