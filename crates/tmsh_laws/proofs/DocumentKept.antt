@@ -342,20 +342,38 @@ module _ (before : List ℕ → Option (List ℕ)) (top : Members) (rs : List Lo
 
   keys_kept : keys_faults [] (top_keys Two) d ≡ []
   keys_kept =
-      each_keys [] (top_keys Two) d
-      (flawless d key.version (Some (integer (pos 2))) version_at refl,
-        (flawless d key.budget (number_entry 100000 S.budget) budget_at (number_ok 1 1000000 100000 (codes "budget") S.budget budget_in),
-          (flawless d key.connections (number_entry 512 S.connections) connections_at (number_ok 1 8192 512 (codes "connections") S.connections connections_in),
-            (flawless d key.idle (number_entry 300 S.idle) idle_at (number_ok 1 86400 300 (codes "idle") S.idle idle_in),
-              (flawless d key.table_rows (number_entry 65536 S.rows) rows_at (number_ok 1 131072 65536 (codes "rows") S.rows rows_in),
-                (flawless d key.servers (array_entry vs) servers_at
-                  (array_ok (codes "virtual") 65536 (get_member (codes "virtual") top) vs (as_many server_of server_members (bad n Virtual) (refuses n Virtual) 0 (items_at key.servers top) is.servers) is.keys.servers),
-                  (flawless d key.pools (array_entry ps) pools_at
-                    (array_ok (codes "pool") 65536 (get_member (codes "pool") top) ps (as_many pool_of pool_members (bad n Pool) (refuses n Pool) 0 (items_at key.pools top) is.pools) is.keys.pools),
-                    (flawless d key.rules (array_entry us) rules_at
-                      (array_ok (codes "rule") 65536 (get_member (codes "rule") top) us (rules_long before n 0 (items_at key.rules top) rs loaded) is.keys.rules),
-                      (flawless d key.groups (array_entry gs) groups_at
-                        (array_ok (codes "group") 65536 (get_member (codes "group") top) gs (as_many group_of group_members (bad n Group) (refuses n Group) 0 (items_at key.groups top) is.groups) is.keys.groups), tt)))))))))
+      each_keys [] (top_keys Two) d (
+        flawless d key.version (Some (integer (pos 2))) version_at refl,
+        (
+          flawless d key.budget (number_entry 100000 S.budget) budget_at (number_ok 1 1000000 100000 (codes "budget") S.budget budget_in),
+          (
+            flawless d key.connections (number_entry 512 S.connections) connections_at (number_ok 1 8192 512 (codes "connections") S.connections connections_in),
+            (
+              flawless d key.idle (number_entry 300 S.idle) idle_at (number_ok 1 86400 300 (codes "idle") S.idle idle_in),
+              (
+                flawless d key.table_rows (number_entry 65536 S.rows) rows_at (number_ok 1 131072 65536 (codes "rows") S.rows rows_in),
+                (
+                  flawless d key.servers (array_entry vs) servers_at
+                      (array_ok (codes "virtual") 65536 (get_member (codes "virtual") top) vs (as_many server_of server_members (bad n Virtual) (refuses n Virtual) 0 (items_at key.servers top) is.servers) is.keys.servers),
+                  (
+                    flawless d key.pools (array_entry ps) pools_at
+                        (array_ok (codes "pool") 65536 (get_member (codes "pool") top) ps (as_many pool_of pool_members (bad n Pool) (refuses n Pool) 0 (items_at key.pools top) is.pools) is.keys.pools),
+                    (
+                      flawless d key.rules (array_entry us) rules_at
+                          (array_ok (codes "rule") 65536 (get_member (codes "rule") top) us (rules_long before n 0 (items_at key.rules top) rs loaded) is.keys.rules),
+                      (
+                        flawless d key.groups (array_entry gs) groups_at
+                            (array_ok (codes "group") 65536 (get_member (codes "group") top) gs (as_many group_of group_members (bad n Group) (refuses n Group) 0 (items_at key.groups top) is.groups) is.keys.groups),
+                        tt,
+                      ),
+                    ),
+                  ),
+                ),
+              ),
+            ),
+          ),
+        ),
+      )
 
   unknown_kept : unknown_faults [] (top_keys Two) d ≡ []
   unknown_kept = all_known [] (top_keys Two) entries no_members (refl, (refl, (refl, (refl, (refl, (refl, (refl, (refl, (refl, tt))))))))) refl
@@ -388,11 +406,11 @@ module _ (before : List ℕ → Option (List ℕ)) (top : Members) (rs : List Lo
       let idle_is : i ≡ S.idle = ap (λ o. whole_or key.idle.kind (option_and_then as_integer o)) idle_at ∙ number_says 1 86400 300 S.idle idle_in in
       let rows_is : r ≡ S.rows = ap (λ o. whole_or key.table_rows.kind (option_and_then as_integer o)) rows_at ∙ number_says 1 131072 65536 S.rows rows_in in
       let servers_is : v ≡ S.virtuals =
-          ap (each server_item) items_of_servers ∙ all_say server_of server_members (bad n Virtual) (refuses n Virtual) (λ at ms e. (server_self at ms e).says) 0 (items_at key.servers top) is.servers in
+      ap (each server_item) items_of_servers ∙ all_say server_of server_members (bad n Virtual) (refuses n Virtual) (λ at ms e. (server_self at ms e).says) 0 (items_at key.servers top) is.servers in
       let pools_is : p ≡ S.pools =
-          ap (each pool_item) items_of_pools ∙ all_say pool_of pool_members (bad n Pool) (refuses n Pool) (λ at ms e. (pool_self at ms e).says) 0 (items_at key.pools top) is.pools in
+      ap (each pool_item) items_of_pools ∙ all_say pool_of pool_members (bad n Pool) (refuses n Pool) (λ at ms e. (pool_self at ms e).says) 0 (items_at key.pools top) is.pools in
       let groups_is : each group_item (items_at key.groups d) ≡ S.groups =
-          ap (each group_item) items_of_groups ∙ all_say group_of group_members (bad n Group) (refuses n Group) (λ at ms e. (group_self at ms e).says) 0 (items_at key.groups top) is.groups in
+      ap (each group_item) items_of_groups ∙ all_say group_of group_members (bad n Group) (refuses n Group) (λ at ms e. (group_self at ms e).says) 0 (items_at key.groups top) is.groups in
       ap (λ x. made b c i r v p x) groups_is ∙ ap (λ x. made b c i r v x S.groups) pools_is ∙ ap (λ x. made b c i r x S.pools S.groups) servers_is
       ∙ ap (λ x. made b c i x S.virtuals S.pools S.groups) rows_is ∙ ap (λ x. made b c x S.rows S.virtuals S.pools S.groups) idle_is
       ∙ ap (λ x. made b x S.idle S.rows S.virtuals S.pools S.groups) connections_is ∙ ap (λ x. made x S.connections S.idle S.rows S.virtuals S.pools S.groups) budget_is
@@ -402,6 +420,6 @@ module _ (before : List ℕ → Option (List ℕ)) (top : Members) (rs : List Lo
     settings = sym says;
     loaded = subst (λ ds. AreLoaded now ds (map in_place rs)) (sym items_of_rules) (all_still_loaded before now (items_at key.rules top) rs loaded);
     placed =
-      ap₂ (λ ds s. first_misplaced (first_place (Some key.name_key.name) ds) (map in_place rs) s.virtuals) items_of_rules says
-      ∙ servers_same m.rules n.rules rules_are rs S.virtuals ∙ placed;
+        ap₂ (λ ds s. first_misplaced (first_place (Some key.name_key.name) ds) (map in_place rs) s.virtuals) items_of_rules says
+        ∙ servers_same m.rules n.rules rules_are rs S.virtuals ∙ placed;
   }

@@ -75,7 +75,7 @@ module _ (kind : Option GroupKind) (prefix : List ℕ) where
       let more = rows_kept (at + 1) ds (no_back (faults_of place (row_flaw kind d)) (rows_from kind prefix (at + 1) ds) e) in
       let new = Some (unwrap_or kind String) in
       let here_ : faults_of place (row_flaw new (array (row_items row))) ≡ [] =
-          ap (λ o. faults_of place (judged (option_map (key_fits new) o))) (row_back row) ∙ ap (λ b. faults_of place (judged (Some b))) (of_kind row fits) in
+      ap (λ o. faults_of place (judged (option_map (key_fits new) o))) (row_back row) ∙ ap (λ b. faults_of place (judged (Some b))) (of_kind row fits) in
       subst (λ o. rows_from new prefix at (rows_items (one o ++ each row_item ds)) ≡ []) (sym is)
       (none (faults_of place (row_flaw new (array (row_items row)))) (rows_from new prefix (at + 1) (rows_items (each row_item ds))) here_ more)
 
@@ -154,11 +154,17 @@ module _ (groups others : List ℕ → Option ℕ) (same : (t : List ℕ) → ot
   faultless : group_faults others prefix at d ≡ []
   faultless =
       none _ _
-      (each_keys prefix group_keys d
-        (flawless d key.name_key (get_member (codes "name") ms) new_name keys.0,
-          (flawless d key.group_type (Some (string (kind_word g.kind))) new_type (kind_ok g.kind),
-            (flawless d key.rows (array_entry (rows_items g.rows)) new_rows
-              (array_ok (codes "rows") 65536 (get_member (codes "rows") ms) (rows_items g.rows) (rows_long (group_kind ms) prefix 0 old old_rows) keys.1.1.0), tt))))
+      (each_keys prefix group_keys d (
+        flawless d key.name_key (get_member (codes "name") ms) new_name keys.0,
+        (
+          flawless d key.group_type (Some (string (kind_word g.kind))) new_type (kind_ok g.kind),
+          (
+            flawless d key.rows (array_entry (rows_items g.rows)) new_rows
+                (array_ok (codes "rows") 65536 (get_member (codes "rows") ms) (rows_items g.rows) (rows_long (group_kind ms) prefix 0 old old_rows) keys.1.1.0),
+            tt,
+          ),
+        ),
+      ))
       (none _ _ (all_known prefix group_keys (group_entries g) no_members (refl, (refl, (refl, tt))) refl)
       (none _ _ (ap (faults_of (key_place prefix key.name_key.name)) (ap (λ o. twice others at (option_and_then as_str o)) new_name ∙ same_twice others groups same at (text_at key.name_key.name ms)) ∙ once)
       (ap₂ (λ k o. rows_of k prefix (option_and_then as_array o)) new_kind new_rows ∙ rows_by (Some g.kind) prefix (rows_items g.rows) ∙ rows_kept (group_kind ms) prefix 0 old old_rows)))
@@ -170,10 +176,10 @@ module _ (groups others : List ℕ → Option ℕ) (same : (t : List ℕ) → ot
   group_kept = record {
     faultless = faultless;
     says =
-      let n = given key.name_key d in
-      let k = unwrap_or (group_kind d) String in
-      ap (λ rs. made n k rs) (ap (λ o. each row_item (or_none (option_and_then as_array o))) new_rows ∙ ap (each row_item) (array_says (rows_items g.rows)) ∙ rows_back g.rows)
-      ∙ ap (λ x. made n x g.rows) (ap (λ o. unwrap_or o String) new_kind) ∙ ap (λ x. made x g.kind g.rows) (ap (λ o. unwrap_or (option_and_then as_str o) []) new_name);
+        let n = given key.name_key d in
+        let k = unwrap_or (group_kind d) String in
+        ap (λ rs. made n k rs) (ap (λ o. each row_item (or_none (option_and_then as_array o))) new_rows ∙ ap (each row_item) (array_says (rows_items g.rows)) ∙ rows_back g.rows)
+        ∙ ap (λ x. made n x g.rows) (ap (λ o. unwrap_or o String) new_kind) ∙ ap (λ x. made x g.kind g.rows) (ap (λ o. unwrap_or (option_and_then as_str o) []) new_name);
     name = ap (option_and_then as_str) new_name;
   }
 
@@ -232,12 +238,13 @@ module _ (rules others : List ℕ → Option ℕ) (same : (t : List ℕ) → oth
       let d = rule_members r in
       record {
         faultless =
-          none _ _
-          (each_keys prefix rule_keys d
-            (flawless d key.name_key (get_member (codes "name") ms) rule_new_name rule_name_ok,
-              (flawless d key.rule_text (Some (string r.text.bytes)) rule_text_at refl, (flawless d key.rule_file None rule_file_at refl, tt))))
-          (none _ _ (all_known prefix rule_keys (rule_entries r) no_members (refl, (refl, tt)) refl)
-          (none _ _
+            none _ _
+            (each_keys prefix rule_keys d (
+              flawless d key.name_key (get_member (codes "name") ms) rule_new_name rule_name_ok,
+              (flawless d key.rule_text (Some (string r.text.bytes)) rule_text_at refl, (flawless d key.rule_file None rule_file_at refl, tt)),
+            ))
+            (none _ _ (all_known prefix rule_keys (rule_entries r) no_members (refl, (refl, tt)) refl)
+            (none _ _
             (ap (faults_of (key_place prefix key.name_key.name)) (ap (λ o. twice others at (option_and_then as_str o)) rule_new_name ∙ same_twice others rules same at (text_at key.name_key.name ms)) ∙ rule_once)
             rule_source));
         name = ap (option_and_then as_str) rule_new_name;
@@ -261,7 +268,7 @@ module _ (told : List ℕ → Option (List ℕ)) (n m : Names) (same : (t : List
       by_table (Some ms) is here_ more =
           let p = prefix_of (item_place [] (section_key Rule).name at) in
           let named : r.rule.name ≡ unwrap_or (text_at key.name_key.name ms) [] =
-              rule_named told d r loaded.0 ∙ ap (λ o. unwrap_or (option_and_then (text_at key.name_key.name) o) []) is in
+          rule_named told d r loaded.0 ∙ ap (λ o. unwrap_or (option_and_then (text_at key.name_key.name) o) []) is in
           none _ _ (rule_kept n.rules m.rules same p at ms r named here_).faultless more
 
 module _ (told : List ℕ → Option (List ℕ)) (n : Names) where
@@ -291,7 +298,7 @@ module _ (told : List ℕ → Option (List ℕ)) (n : Names) where
       by_table (Some ms) is here_ more =
           let p = prefix_of (item_place [] (section_key Rule).name at) in
           let named : r.rule.name ≡ unwrap_or (text_at key.name_key.name ms) [] =
-              rule_named told d r loaded.0 ∙ ap (λ o. unwrap_or (option_and_then (text_at key.name_key.name) o) []) is in
+          rule_named told d r loaded.0 ∙ ap (λ o. unwrap_or (option_and_then (text_at key.name_key.name) o) []) is in
           ap₂ (λ x y. option_or (here x t at) y)
           ((rule_kept n.rules n.rules self p at ms r named here_).name ∙ sym (ap (option_and_then (text_at key.name_key.name)) is)) more
 
@@ -300,9 +307,9 @@ module _ (told now : List ℕ → Option (List ℕ)) where
   still_loaded : (d : Data) (r : LoadedRule) → IsLoaded told d r → IsLoaded now (table (rule_members r)) (in_place r)
   still_loaded d r is =
       let name_is : rule_name (table (rule_members r)) ≡ rule_name d =
-          ap (λ o. unwrap_or (option_and_then as_str o) []) (at_key (rule_entries r) (codes "name") (Some (string r.rule.name)) refl) ∙ rule_named told d r is in
+      ap (λ o. unwrap_or (option_and_then as_str o) []) (at_key (rule_entries r) (codes "name") (Some (string r.rule.name)) refl) ∙ rule_named told d r is in
       let text_is : text_in (Some key.rule_text.name) (table (rule_members r)) ≡ Some r.text.bytes =
-          ap (option_and_then as_str) (at_key (rule_entries r) (codes "text") (Some (string r.text.bytes)) refl) in
+      ap (option_and_then as_str) (at_key (rule_entries r) (codes "text") (Some (string r.text.bytes)) refl) in
       let bytes : is.text.bytes ≡ r.text.bytes = sym (ap (λ t. t.bytes) is.rule.text_is) in
       record {
         text = (in_place r).text;

@@ -60,10 +60,10 @@ module _ (s : Sketch) (gm : Members) where
       let valued = now s (next.Value item_.Data) gm en no_members row in
       let ps = codes " data " ∷ (word w ∷ []) in
       let read : ReadsAll Within (within en row) (32 ∷ (codes "data" ++ (32 ∷ (word w ++ (32 ∷ more))))) u =
-          blank (within en row) u refl (codes "data" ++ (32 ∷ (word w ++ (32 ∷ more))))
-          (run_within (within en row) valued u refl (codes "data") 32 (word w ++ (32 ∷ more)) (run_of (codes "data") refl) refl refl
-          (blank valued u refl (word w ++ (32 ∷ more))
-          (word_all valued (within en (row_items (k, w))) u refl w 32 more utf8 refl (given en k w (not (eqb (length w) 0) && is_plain w)) all))) in
+      blank (within en row) u refl (codes "data" ++ (32 ∷ (word w ++ (32 ∷ more))))
+      (run_within (within en row) valued u refl (codes "data") 32 (word w ++ (32 ∷ more)) (run_of (codes "data") refl) refl refl
+      (blank valued u refl (word w ++ (32 ∷ more))
+      (word_all valued (within en (row_items (k, w))) u refl w 32 more utf8 refl (given en k w (not (eqb (length w) 0) && is_plain w)) all))) in
       let shown : ReadsAll Within (within en row) (joined ps ++ (32 ∷ more)) u = subst (λ x. ReadsAll Within (within en row) x u) (sym (joined_chain ps (32 ∷ more))) read in
       subst (λ x. ReadsAll Within (within en row) ((if x then [] else joined ps) ++ (32 ∷ more)) u) (sym (not_none b v)) shown
 
@@ -75,13 +75,13 @@ module _ (s : Sketch) (gm : Members) where
       let t = rowing (push_item en (array (row_items (k, v)))) in
       by_chain LineStart LineStart (rowing en) t (codes "        " ∷ (word k ∷ (codes " {" ∷ (data_item v ∷ (codes " }\n" ∷ [])))))
       (λ rest u all.
-        let ending = 125 ∷ (10 ∷ rest) in
-        let ended : ReadsAll Within whole (32 ∷ ending) u = blank whole u refl ending (close_all Within whole t u refl (10 ∷ rest) refl refl (newline t u refl rest all)) in
-        let after = data_item v ++ (32 ∷ ending) in
-        indent_twice (rowing en) u refl (word k ++ (32 ∷ (123 ∷ after)))
-        (word_all (rowing en) opened u refl k 32 (123 ∷ after) is.key refl (keyed en k (not (eqb (length k) 0) && is_plain k))
-        (blank opened u refl (123 ∷ after)
-        (open_all Within opened inside u refl after refl refl (data_by en k v is.value ending u ended)))))
+      let ending = 125 ∷ (10 ∷ rest) in
+      let ended : ReadsAll Within whole (32 ∷ ending) u = blank whole u refl ending (close_all Within whole t u refl (10 ∷ rest) refl refl (newline t u refl rest all)) in
+      let after = data_item v ++ (32 ∷ ending) in
+      indent_twice (rowing en) u refl (word k ++ (32 ∷ (123 ∷ after)))
+      (word_all (rowing en) opened u refl k 32 (123 ∷ after) is.key refl (keyed en k (not (eqb (length k) 0) && is_plain k))
+      (blank opened u refl (123 ∷ after)
+      (open_all Within opened inside u refl after refl refl (data_by en k v is.value ending u ended)))))
 
   abbrev group : Members → Sketch
   group n = among s block.Group n
@@ -94,15 +94,15 @@ module _ (s : Sketch) (gm : Members) where
       let t = group (with_member (codes "rows") (array en) gm) in
       by_chain LineStart LineStart (group gm) t (codes "    records {\n" ∷ (records rows ∷ (codes "    }\n" ∷ [])))
       (λ rest u all.
-        let ending = 32 ∷ (32 ∷ (32 ∷ (32 ∷ (125 ∷ (10 ∷ rest))))) in
-        let ended : ReadsAll LineStart (rowing en) ending u = indent (rowing en) u refl (125 ∷ (10 ∷ rest)) (close_all Within (rowing en) t u refl (10 ∷ rest) refl refl (newline t u refl rest all)) in
-        let lines : ReadsAll LineStart (rowing no_items) (records rows ++ ending) u =
-            all_go LineStart data_record rowing (λ ds r. push_item ds (array (row_items r))) RowReads row_goes rows each no_items ending u ended in
-        indent (group gm) u refl (codes "records" ++ (32 ∷ (123 ∷ (10 ∷ (records rows ++ ending)))))
-        (run_within (group gm) v u refl (codes "records") 32 (123 ∷ (10 ∷ (records rows ++ ending))) (run_of (codes "records") refl) refl (keyword s block.Group item_.Rows (codes "records") gm refl none)
-        (blank v u refl (123 ∷ (10 ∷ (records rows ++ ending)))
-        (open_all Within v (rowing no_items) u refl (10 ∷ (records rows ++ ending)) refl refl
-        (newline (rowing no_items) u refl (records rows ++ ending) lines)))))
+      let ending = 32 ∷ (32 ∷ (32 ∷ (32 ∷ (125 ∷ (10 ∷ rest))))) in
+      let ended : ReadsAll LineStart (rowing en) ending u = indent (rowing en) u refl (125 ∷ (10 ∷ rest)) (close_all Within (rowing en) t u refl (10 ∷ rest) refl refl (newline t u refl rest all)) in
+      let lines : ReadsAll LineStart (rowing no_items) (records rows ++ ending) u =
+      all_go LineStart data_record rowing (λ ds r. push_item ds (array (row_items r))) RowReads row_goes rows each no_items ending u ended in
+      indent (group gm) u refl (codes "records" ++ (32 ∷ (123 ∷ (10 ∷ (records rows ++ ending)))))
+      (run_within (group gm) v u refl (codes "records") 32 (123 ∷ (10 ∷ (records rows ++ ending))) (run_of (codes "records") refl) refl (keyword s block.Group item_.Rows (codes "records") gm refl none)
+      (blank v u refl (123 ∷ (10 ∷ (records rows ++ ending)))
+      (open_all Within v (rowing no_items) u refl (10 ∷ (records rows ++ ending)) refl refl
+      (newline (rowing no_items) u refl (records rows ++ ending) lines)))))
 
   rows_go : (rows : List Row) → Each RowReads rows → is_some (get_member (codes "rows") gm) ≡ false
       → Goes LineStart (group gm) (records_item rows) LineStart (group (put (codes "rows") (array_entry (rows_items rows)) gm))
@@ -111,7 +111,7 @@ module _ (s : Sketch) (gm : Members) where
       let text = joined (codes "    records {\n" ∷ (records (r ∷ rows) ∷ (codes "    }\n" ∷ []))) in
       let t = group (with_member (codes "rows") (array (rows_items (r ∷ rows))) gm) in
       let goes : Goes LineStart (group gm) text LineStart t =
-          subst (λ en. Goes LineStart (group gm) text LineStart (group (with_member (codes "rows") (array en) gm))) (pushed_is (λ x. array (row_items x)) (r ∷ rows)) (some_rows (r ∷ rows) each none) in
+      subst (λ en. Goes LineStart (group gm) text LineStart (group (with_member (codes "rows") (array en) gm))) (pushed_is (λ x. array (row_items x)) (r ∷ rows)) (some_rows (r ∷ rows) each none) in
       subst (λ x. Goes LineStart (group gm) (if x then [] else text) LineStart t) (sym (not_none r rows)) goes
 
   type_goes : (w : List ℕ) → IsRun w → is_some (get_member (codes "type") gm) ≡ false
@@ -170,9 +170,9 @@ module _ (s : Sketch) (g : GroupSettings) (is : GroupReads g) where
       let closes : step (at (group_entries g)) Close ≡ Some (idle (with_group s g) next.Stanza) = ap (λ x. if x then Some (closed block.Group (at (group_entries g))) else None) whole in
       by_chain LineStart LineStart (idle s next.Stanza) (idle (with_group s g) next.Stanza) (codes "ltm data-group internal " ∷ (g.name ∷ (codes " {\n" ∷ (group_items g ∷ (codes "}\n" ∷ [])))))
       (λ rest u all.
-        let ending = 125 ∷ (10 ∷ rest) in
-        head (group_items g ++ ending) u
-        (items_go ending u (close_all LineStart (at (group_entries g)) (idle (with_group s g) next.Stanza) u refl (10 ∷ rest) refl closes (newline (idle (with_group s g) next.Stanza) u refl rest all))))
+      let ending = 125 ∷ (10 ∷ rest) in
+      head (group_items g ++ ending) u
+      (items_go ending u (close_all LineStart (at (group_entries g)) (idle (with_group s g) next.Stanza) u refl (10 ∷ rest) refl closes (newline (idle (with_group s g) next.Stanza) u refl rest all))))
 
 -- ---- a rule
 
@@ -191,10 +191,10 @@ module _ (s : Sketch) (r : LoadedRule) (is : RuleReads r) where
       let t = idle (with_rule s r) next.Stanza in
       by_chain LineStart LineStart (idle s next.Stanza) t (codes "ltm rule " ∷ (r.rule.name ∷ (codes " {" ∷ (r.text.bytes ∷ (codes "}\n" ∷ [])))))
       (λ rest u all.
-        let inside = 123 ∷ (r.text.bytes ++ (125 ∷ (10 ∷ rest))) in
-        let text = r.rule.name ++ (32 ∷ inside) in
-        ltm_all s u (codes "rule " ++ text)
-        (run_within (idle s next.Section) (idle s (next.Name section.Rule)) u refl (codes "rule") 32 text (run_of (codes "rule") refl) refl refl
-        (blank (idle s (next.Name section.Rule)) u refl text
-        (run_within (idle s (next.Name section.Rule)) named u refl r.rule.name 32 inside is.name refl refl
-        (rule_all named t u refl r.text.bytes (10 ∷ rest) is.utf8 is.balanced refl (newline t u refl rest all))))))
+      let inside = 123 ∷ (r.text.bytes ++ (125 ∷ (10 ∷ rest))) in
+      let text = r.rule.name ++ (32 ∷ inside) in
+      ltm_all s u (codes "rule " ++ text)
+      (run_within (idle s next.Section) (idle s (next.Name section.Rule)) u refl (codes "rule") 32 text (run_of (codes "rule") refl) refl refl
+      (blank (idle s (next.Name section.Rule)) u refl text
+      (run_within (idle s (next.Name section.Rule)) named u refl r.rule.name 32 inside is.name refl refl
+      (rule_all named t u refl r.text.bytes (10 ∷ rest) is.utf8 is.balanced refl (newline t u refl rest all))))))

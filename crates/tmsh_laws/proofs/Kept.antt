@@ -77,9 +77,10 @@ Flawless ms k = flaw_of k (get_member k.name ms) ≡ None
 
 pub keys_each : (prefix : List ℕ) (keys : List TableKey) (ms : Members) → keys_faults prefix keys ms ≡ [] → Each (Flawless ms) keys
 keys_each prefix [] ms e = tt
-keys_each prefix (k ∷ keys) ms e =
-    (no_flaw (key_place prefix k.name) (key_flaw k ms) (no_front (key_faults prefix ms k) (keys_faults prefix keys ms) e),
-      keys_each prefix keys ms (no_back (key_faults prefix ms k) (keys_faults prefix keys ms) e))
+keys_each prefix (k ∷ keys) ms e = (
+  no_flaw (key_place prefix k.name) (key_flaw k ms) (no_front (key_faults prefix ms k) (keys_faults prefix keys ms) e),
+  keys_each prefix keys ms (no_back (key_faults prefix ms k) (keys_faults prefix keys ms) e),
+)
 
 pub each_keys : (prefix : List ℕ) (keys : List TableKey) (ms : Members) → Each (Flawless ms) keys → keys_faults prefix keys ms ≡ []
 each_keys prefix [] ms each = refl

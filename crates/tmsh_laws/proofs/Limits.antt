@@ -147,14 +147,14 @@ module _ (s : Settings) where
         let opened = limited (next.Opens block.Limits) true no_members in
         by_chain LineStart LineStart reading.blank t (codes "sys limits" ∷ ([] ∷ (codes " {\n" ∷ (items ∷ (codes "}\n" ∷ [])))))
         (λ rest u all.
-          let after = items ++ (125 ∷ (10 ∷ rest)) in
-          run_all LineStart reading.blank sys u refl 115 (121 ∷ (115 ∷ [])) 32 (codes "limits" ++ (32 ∷ (123 ∷ (10 ∷ after)))) refl (run_of (codes "sys") refl) refl refl
-          (blank sys u refl (codes "limits" ++ (32 ∷ (123 ∷ (10 ∷ after))))
-          (run_within sys opened u refl (codes "limits") 32 (123 ∷ (10 ∷ after)) (run_of (codes "limits") refl) refl refl
-          (blank opened u refl (123 ∷ (10 ∷ after))
-          (open_all Within opened (inside no_members) u refl (10 ∷ after) refl refl
-          (newline (inside no_members) u refl after
-          (items_go (125 ∷ (10 ∷ rest)) u (close_all LineStart (inside table) t u refl (10 ∷ rest) refl refl (newline t u refl rest all)))))))))
+        let after = items ++ (125 ∷ (10 ∷ rest)) in
+        run_all LineStart reading.blank sys u refl 115 (121 ∷ (115 ∷ [])) 32 (codes "limits" ++ (32 ∷ (123 ∷ (10 ∷ after)))) refl (run_of (codes "sys") refl) refl refl
+        (blank sys u refl (codes "limits" ++ (32 ∷ (123 ∷ (10 ∷ after))))
+        (run_within sys opened u refl (codes "limits") 32 (123 ∷ (10 ∷ after)) (run_of (codes "limits") refl) refl refl
+        (blank opened u refl (123 ∷ (10 ∷ after))
+        (open_all Within opened (inside no_members) u refl (10 ∷ after) refl refl
+        (newline (inside no_members) u refl after
+        (items_go (125 ∷ (10 ∷ rest)) u (close_all LineStart (inside table) t u refl (10 ∷ rest) refl refl (newline t u refl rest all)))))))))
 
     pub limits_go : (b : Bool) × Goes LineStart reading.blank (limits s) LineStart (limited next.Stanza b table)
     limits_go = by_test (eqb (length (limit_items s)) 0) refl
@@ -162,7 +162,9 @@ module _ (s : Settings) where
         by_test : (x : Bool) → eqb (length (limit_items s)) 0 ≡ x
             → (b : Bool) × Goes LineStart reading.blank (if x then limit_items s else stanza (codes "sys limits") [] (limit_items s)) LineStart (limited next.Stanza b table)
         by_test true e =
-            let none = no_bytes (limit_items s) e in
-            (false, subst (λ items. Goes LineStart reading.blank items LineStart (limited next.Stanza false table)) (sym none)
-              (subst (λ m. Goes LineStart reading.blank [] LineStart (limited next.Stanza false m)) (sym (nothing_put none)) (nothing LineStart reading.blank)))
+            let none = no_bytes (limit_items s) e in (
+              false,
+              subst (λ items. Goes LineStart reading.blank items LineStart (limited next.Stanza false table)) (sym none)
+                  (subst (λ m. Goes LineStart reading.blank [] LineStart (limited next.Stanza false m)) (sym (nothing_put none)) (nothing LineStart reading.blank)),
+            )
         by_test false e = (true, stanza_is_read)

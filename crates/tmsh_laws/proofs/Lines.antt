@@ -74,10 +74,10 @@ pub item_goes : (s r t : Sketch) (w v : List ℕ) → Plain s → Plain r → Pl
 item_goes s r t w v plain_s plain_r plain_t run_w run_v first second =
     by_chain LineStart LineStart s t (codes "    " ∷ (w ∷ (codes " " ∷ (v ∷ (codes "\n" ∷ [])))))
     (λ rest u all. indent s u plain_s (w ++ (32 ∷ (v ++ (10 ∷ rest))))
-      (run_within s r u plain_s w 32 (v ++ (10 ∷ rest)) run_w refl first
-      (blank r u plain_r (v ++ (10 ∷ rest))
-      (run_within r t u plain_r v 10 rest run_v refl second
-      (newline t u plain_t rest all)))))
+    (run_within s r u plain_s w 32 (v ++ (10 ∷ rest)) run_w refl first
+    (blank r u plain_r (v ++ (10 ∷ rest))
+    (run_within r t u plain_r v 10 rest run_v refl second
+    (newline t u plain_t rest all)))))
 
 -- the line that ends a stanza or an item
 pub ends_line : (s t : Sketch) → Plain s → Plain t → step s Close ≡ Some t → (rest : List ℕ) (u : Sketch) → ReadsAll LineStart t rest u → ReadsAll LineStart s (125 ∷ (10 ∷ rest)) u

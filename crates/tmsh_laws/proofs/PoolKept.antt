@@ -143,10 +143,13 @@ module _ (own others : List ℕ → Option ℕ) (same : (t : List ℕ) → other
   faultless : member_faults Two others prefix at d ≡ []
   faultless =
       none _ _
-      (each_keys prefix (member_keys Two) d
-        (flawless d key.addr (get_member (codes "addr") ms) new_addr is.addr,
-          (flawless d key.ratio (number_entry 1 m.ratio) new_ratio (number_ok 1 100 1 (codes "ratio") m.ratio ratio_in),
-            (flawless d key.priority (number_entry 0 m.priority) new_priority (number_ok 0 100 0 (codes "priority") m.priority priority_in), tt))))
+      (each_keys prefix (member_keys Two) d (
+        flawless d key.addr (get_member (codes "addr") ms) new_addr is.addr,
+        (
+          flawless d key.ratio (number_entry 1 m.ratio) new_ratio (number_ok 1 100 1 (codes "ratio") m.ratio ratio_in),
+          (flawless d key.priority (number_entry 0 m.priority) new_priority (number_ok 0 100 0 (codes "priority") m.priority priority_in), tt),
+        ),
+      ))
       (none _ _ (all_known prefix (member_keys Two) (member_entries m) no_members (refl, (refl, (refl, tt))) refl)
       (ap (faults_of (key_place prefix key.addr.name)) (ap (λ o. twice others at (option_and_then as_str o)) new_addr ∙ same_twice others own same at (text_at key.addr.name ms)) ∙ is.once))
 
@@ -168,8 +171,8 @@ module _ (own others : List ℕ → Option ℕ) (same : (t : List ℕ) → other
   member_kept_by = record {
     faultless = faultless;
     says =
-      ap (λ p. made (addr_at key.addr d) (ratio_of (whole_at key.ratio d)) p) says_priority ∙ ap (λ r. made (addr_at key.addr d) r m.priority) says_ratio
-      ∙ ap (λ a. made a m.ratio m.priority) says_addr;
+        ap (λ p. made (addr_at key.addr d) (ratio_of (whole_at key.ratio d)) p) says_priority ∙ ap (λ r. made (addr_at key.addr d) r m.priority) says_ratio
+        ∙ ap (λ a. made a m.ratio m.priority) says_addr;
     addr = ap (option_and_then as_str) new_addr;
   }
 
@@ -330,19 +333,24 @@ module _ (v : Version) (pools others : List ℕ → Option ℕ) (same : (t : Lis
   pool_faultless : pool_faults Two others prefix at pd ≡ []
   pool_faultless =
       let most = member_count ms in
-      let keys : Each (Flawless pd) (pool_keys Two most) =
-          (flawless pd key.name_key (get_member (codes "name") ms) new_name is.name,
-            (flawless pd key.method (method_entry p.method) new_method (method_ok p.method),
-              (flawless pd key.members (array_entry (anew_members old)) new_members
+      let keys : Each (Flawless pd) (pool_keys Two most) = (
+        flawless pd key.name_key (get_member (codes "name") ms) new_name is.name,
+        (
+          flawless pd key.method (method_entry p.method) new_method (method_ok p.method),
+          (
+            flawless pd key.members (array_entry (anew_members old)) new_members
                 (array_ok (codes "members") 1000 (get_member (codes "members") ms) (anew_members old) (members_long v own prefix old old_members) is.members),
-                (flawless pd (min_active most) (number_entry 0 p.min_active) new_active (number_ok 0 most 0 (codes "min_active") p.min_active active_in), tt)))) in
+            (flawless pd (min_active most) (number_entry 0 p.min_active) new_active (number_ok 0 most 0 (codes "min_active") p.min_active active_in), tt),
+          ),
+        ),
+      ) in
       let unknown : unknown_faults prefix (pool_keys Two most) pd ≡ [] = all_known prefix (pool_keys Two most) (pool_entries p) no_members (refl, (refl, (refl, (refl, tt)))) refl in
       let of_keys : pool_keys_faults Two prefix pd ≡ [] =
-          subst (λ n. keys_faults prefix (pool_keys Two n) pd ++ unknown_faults prefix (pool_keys Two n) pd ≡ []) (sym same_count)
-          (none _ _ (each_keys prefix (pool_keys Two most) pd keys) unknown) in
+      subst (λ n. keys_faults prefix (pool_keys Two n) pd ++ unknown_faults prefix (pool_keys Two n) pd ≡ []) (sym same_count)
+      (none _ _ (each_keys prefix (pool_keys Two most) pd keys) unknown) in
       let its : members_of Two prefix (array_at key.members pd) ≡ [] =
-          ap (λ o. members_of Two prefix (option_and_then as_array o)) new_members ∙ members_by Two prefix (anew_members old)
-          ∙ members_kept v own prefix old old_members (first_place (Some key.addr.name) (anew_members old)) (members_places v own prefix old old_members) in
+      ap (λ o. members_of Two prefix (option_and_then as_array o)) new_members ∙ members_by Two prefix (anew_members old)
+      ∙ members_kept v own prefix old old_members (first_place (Some key.addr.name) (anew_members old)) (members_places v own prefix old old_members) in
       none _ _ of_keys
       (none _ _ (ap (faults_of (key_place prefix key.name_key.name)) (ap (λ o. twice others at (option_and_then as_str o)) new_name ∙ same_twice others pools same at (text_at key.name_key.name ms)) ∙ is.once) its)
 
@@ -362,11 +370,11 @@ module _ (v : Version) (pools others : List ℕ → Option ℕ) (same : (t : Lis
   pool_kept_by = record {
     faultless = pool_faultless;
     says =
-      let n = given key.name_key pd in
-      let k = method_of (chosen key.method pd) in
-      let xs = each member_item (or_none (array_at key.members pd)) in
-      ap (λ a. pool_made n k xs a) says_active ∙ ap (λ x. pool_made n k x p.min_active) says_members ∙ ap (λ x. pool_made n x p.members p.min_active) (ap method_by new_method ∙ method_says p.method)
-      ∙ ap (λ x. pool_made x p.method p.members p.min_active) (ap (λ o. unwrap_or (option_and_then as_str o) []) new_name);
+        let n = given key.name_key pd in
+        let k = method_of (chosen key.method pd) in
+        let xs = each member_item (or_none (array_at key.members pd)) in
+        ap (λ a. pool_made n k xs a) says_active ∙ ap (λ x. pool_made n k x p.min_active) says_members ∙ ap (λ x. pool_made n x p.members p.min_active) (ap method_by new_method ∙ method_says p.method)
+        ∙ ap (λ x. pool_made x p.method p.members p.min_active) (ap (λ o. unwrap_or (option_and_then as_str o) []) new_name);
     name = ap (option_and_then as_str) new_name;
   }
 

@@ -69,10 +69,10 @@ module _ (s : Sketch) (pm : Members) where
         let v = valued en i mm in
         let behind : ReadsAll Within t (32 ∷ more) u = subst (λ x. ReadsAll Within t x u) is all in
         let read : ReadsAll Within (within en mm) (32 ∷ (w ++ (32 ∷ (decimal n ++ (32 ∷ more))))) u =
-            blank (within en mm) u refl (w ++ (32 ∷ (decimal n ++ (32 ∷ more))))
-            (run_within (within en mm) v u refl w 32 (decimal n ++ (32 ∷ more)) run refl first
-            (blank v u refl (decimal n ++ (32 ∷ more))
-            (run_within v t u refl (decimal n) 32 more digits refl (last n (number_back n small)) behind))) in
+        blank (within en mm) u refl (w ++ (32 ∷ (decimal n ++ (32 ∷ more))))
+        (run_within (within en mm) v u refl w 32 (decimal n ++ (32 ∷ more)) run refl first
+        (blank v u refl (decimal n ++ (32 ∷ more))
+        (run_within v t u refl (decimal n) 32 more digits refl (last n (number_back n small)) behind))) in
         subst (λ x. ReadsAll Within (within en mm) x u)
         (sym (joined_chain (codes " " ∷ (w ∷ (codes " " ∷ (decimal n ∷ [])))) rest ∙ ap (λ x. 32 ∷ (w ++ (32 ∷ (decimal n ++ x)))) is)) read
 
@@ -102,16 +102,16 @@ module _ (s : Sketch) (pm : Members) where
       let two = short_item (codes "priority-group") 0 m.priority in
       by_chain LineStart LineStart (listing en) t (codes "        " ∷ (addr ∷ (codes " {" ∷ (one ∷ (two ∷ (codes " }\n" ∷ []))))))
       (λ rest u all.
-        let ending = 32 ∷ (125 ∷ (10 ∷ rest)) in
-        let ended : ReadsAll Within whole ending u = blank whole u refl (125 ∷ (10 ∷ rest)) (close_all Within whole t u refl (10 ∷ rest) refl refl (newline t u refl rest all)) in
-        let begins : BeginsBlank ending = (125 ∷ (10 ∷ rest), refl) in
-        let read : ReadsAll Within (within en ma) (one ++ (two ++ ending)) u =
-            ratio_by en ma m.ratio is.ratio_small is.ratio (lacks (codes "ratio") a refl) (two ++ ending) u (short_blank (codes "priority-group") m.priority (eqb m.priority 0) ending begins)
-            (priority_by en mb m.priority is.priority_small is.priority (lacks (codes "priority") b refl) ending u begins ended) in
-        indent_twice (listing en) u refl (addr ++ (32 ∷ (123 ∷ (one ++ (two ++ ending)))))
-        (run_within (listing en) opened u refl addr 32 (123 ∷ (one ++ (two ++ ending))) is.addr refl refl
-        (blank opened u refl (123 ∷ (one ++ (two ++ ending)))
-        (open_all Within opened (within en ma) u refl (one ++ (two ++ ending)) refl refl read))))
+      let ending = 32 ∷ (125 ∷ (10 ∷ rest)) in
+      let ended : ReadsAll Within whole ending u = blank whole u refl (125 ∷ (10 ∷ rest)) (close_all Within whole t u refl (10 ∷ rest) refl refl (newline t u refl rest all)) in
+      let begins : BeginsBlank ending = (125 ∷ (10 ∷ rest), refl) in
+      let read : ReadsAll Within (within en ma) (one ++ (two ++ ending)) u =
+      ratio_by en ma m.ratio is.ratio_small is.ratio (lacks (codes "ratio") a refl) (two ++ ending) u (short_blank (codes "priority-group") m.priority (eqb m.priority 0) ending begins)
+      (priority_by en mb m.priority is.priority_small is.priority (lacks (codes "priority") b refl) ending u begins ended) in
+      indent_twice (listing en) u refl (addr ++ (32 ∷ (123 ∷ (one ++ (two ++ ending)))))
+      (run_within (listing en) opened u refl addr 32 (123 ∷ (one ++ (two ++ ending))) is.addr refl refl
+      (blank opened u refl (123 ∷ (one ++ (two ++ ending)))
+      (open_all Within opened (within en ma) u refl (one ++ (two ++ ending)) refl refl read))))
 
   abbrev pool : Members → Sketch
   pool n = among s block.Pool n
@@ -124,15 +124,15 @@ module _ (s : Sketch) (pm : Members) where
       let t = pool (with_member (codes "members") (array en) pm) in
       by_chain LineStart LineStart (pool pm) t (codes "    members {\n" ∷ (member_lines ms ∷ (codes "    }\n" ∷ [])))
       (λ rest u all.
-        let ending = 32 ∷ (32 ∷ (32 ∷ (32 ∷ (125 ∷ (10 ∷ rest))))) in
-        let ended : ReadsAll LineStart (listing en) ending u = indent (listing en) u refl (125 ∷ (10 ∷ rest)) (close_all Within (listing en) t u refl (10 ∷ rest) refl refl (newline t u refl rest all)) in
-        let lines : ReadsAll LineStart (listing no_items) (member_lines ms ++ ending) u =
-            all_go LineStart member_line listing (λ ds m. push_item ds (table (member_members m))) MemberReads member_goes ms each no_items ending u ended in
-        indent (pool pm) u refl (codes "members" ++ (32 ∷ (123 ∷ (10 ∷ (member_lines ms ++ ending)))))
-        (run_within (pool pm) v u refl (codes "members") 32 (123 ∷ (10 ∷ (member_lines ms ++ ending))) (run_of (codes "members") refl) refl (keyword s block.Pool item_.Members (codes "members") pm refl none)
-        (blank v u refl (123 ∷ (10 ∷ (member_lines ms ++ ending)))
-        (open_all Within v (listing no_items) u refl (10 ∷ (member_lines ms ++ ending)) refl refl
-        (newline (listing no_items) u refl (member_lines ms ++ ending) lines)))))
+      let ending = 32 ∷ (32 ∷ (32 ∷ (32 ∷ (125 ∷ (10 ∷ rest))))) in
+      let ended : ReadsAll LineStart (listing en) ending u = indent (listing en) u refl (125 ∷ (10 ∷ rest)) (close_all Within (listing en) t u refl (10 ∷ rest) refl refl (newline t u refl rest all)) in
+      let lines : ReadsAll LineStart (listing no_items) (member_lines ms ++ ending) u =
+      all_go LineStart member_line listing (λ ds m. push_item ds (table (member_members m))) MemberReads member_goes ms each no_items ending u ended in
+      indent (pool pm) u refl (codes "members" ++ (32 ∷ (123 ∷ (10 ∷ (member_lines ms ++ ending)))))
+      (run_within (pool pm) v u refl (codes "members") 32 (123 ∷ (10 ∷ (member_lines ms ++ ending))) (run_of (codes "members") refl) refl (keyword s block.Pool item_.Members (codes "members") pm refl none)
+      (blank v u refl (123 ∷ (10 ∷ (member_lines ms ++ ending)))
+      (open_all Within v (listing no_items) u refl (10 ∷ (member_lines ms ++ ending)) refl refl
+      (newline (listing no_items) u refl (member_lines ms ++ ending) lines)))))
 
   pub members_go : (ms : List Member) → Each MemberReads ms → is_some (get_member (codes "members") pm) ≡ false
       → Goes LineStart (pool pm) (members_item ms) LineStart (pool (put (codes "members") (array_entry (tables member_members ms)) pm))
@@ -141,7 +141,7 @@ module _ (s : Sketch) (pm : Members) where
       let text = joined (codes "    members {\n" ∷ (member_lines (m ∷ ms) ∷ (codes "    }\n" ∷ []))) in
       let t = pool (with_member (codes "members") (array (tables member_members (m ∷ ms))) pm) in
       let goes : Goes LineStart (pool pm) text LineStart t =
-          subst (λ en. Goes LineStart (pool pm) text LineStart (pool (with_member (codes "members") (array en) pm))) (pushed_is (λ x. table (member_members x)) (m ∷ ms)) (some_members (m ∷ ms) each none) in
+      subst (λ en. Goes LineStart (pool pm) text LineStart (pool (with_member (codes "members") (array en) pm))) (pushed_is (λ x. table (member_members x)) (m ∷ ms)) (some_members (m ∷ ms) each none) in
       subst (λ x. Goes LineStart (pool pm) (if x then [] else text) LineStart t) (sym (not_none m ms)) goes
 
   -- ---- the other items

@@ -61,10 +61,13 @@ u_lines none head lines lit utf8 =
 u_limits : (s : Settings) → LimitsRead s → IsUtf8 (limits s)
 u_limits s is =
     let items : IsUtf8 (limit_items s) =
-        utf8_joined (number_item (codes "budget") 100000 s.budget ∷ (number_item (codes "connections") 512 s.connections ∷ (number_item (codes "idle") 300 s.idle ∷ (number_item (codes "rows") 65536 s.rows ∷ []))))
-        (u_number (codes "budget") 100000 s.budget refl is.budget.digits,
-          (u_number (codes "connections") 512 s.connections refl is.connections.digits,
-            (u_number (codes "idle") 300 s.idle refl is.idle.digits, (u_number (codes "rows") 65536 s.rows refl is.rows.digits, tt)))) in
+    utf8_joined (number_item (codes "budget") 100000 s.budget ∷ (number_item (codes "connections") 512 s.connections ∷ (number_item (codes "idle") 300 s.idle ∷ (number_item (codes "rows") 65536 s.rows ∷ [])))) (
+      u_number (codes "budget") 100000 s.budget refl is.budget.digits,
+      (
+        u_number (codes "connections") 512 s.connections refl is.connections.digits,
+        (u_number (codes "idle") 300 s.idle refl is.idle.digits, (u_number (codes "rows") 65536 s.rows refl is.rows.digits, tt)),
+      ),
+    ) in
     utf8_if (eqb (length (limit_items s)) 0) (limit_items s) (stanza (codes "sys limits") [] (limit_items s)) items (u_stanza (codes "sys limits") [] (limit_items s) refl IsUtf8-nil items)
 
 -- ---- virtual servers
@@ -94,9 +97,10 @@ u_rules names each =
 u_server : (v : VirtualSettings) → ServerReads v → IsUtf8 (server_text v)
 u_server v is =
     u_stanza (codes "ltm virtual ") v.name (server_items v) refl (run v.name is.name)
-    (utf8_joined (item (codes "destination") (addr_text v.listen) ∷ (http_item v.http ∷ (pool_item v.pool ∷ (persist_item v.persist ∷ (number_item (codes "persist-timeout") 180 v.persist_timeout ∷ (rules_item v.rules ∷ []))))))
-      (u_item (codes "destination") (addr_text v.listen) refl (run (addr_text v.listen) is.listen),
-        (u_http v.http, (u_pool v.pool is.pool, (u_persist v.persist, (u_number (codes "persist-timeout") 180 v.persist_timeout refl is.timeout, (u_rules v.rules is.rules, tt)))))))
+    (utf8_joined (item (codes "destination") (addr_text v.listen) ∷ (http_item v.http ∷ (pool_item v.pool ∷ (persist_item v.persist ∷ (number_item (codes "persist-timeout") 180 v.persist_timeout ∷ (rules_item v.rules ∷ [])))))) (
+      u_item (codes "destination") (addr_text v.listen) refl (run (addr_text v.listen) is.listen),
+      (u_http v.http, (u_pool v.pool is.pool, (u_persist v.persist, (u_number (codes "persist-timeout") 180 v.persist_timeout refl is.timeout, (u_rules v.rules is.rules, tt))))),
+    ))
 
 -- ---- pools
 
@@ -106,18 +110,24 @@ u_mode Ratio = literal (codes "    load-balancing-mode ratio-member\n") refl
 
 u_member : (m : Member) → MemberReads m → IsUtf8 (member_line m)
 u_member m is =
-    utf8_joined (codes "        " ∷ (addr_text m.addr ∷ (codes " {" ∷ (short_item (codes "ratio") 1 m.ratio ∷ (short_item (codes "priority-group") 0 m.priority ∷ (codes " }\n" ∷ []))))))
-    (literal (codes "        ") refl,
-      (run (addr_text m.addr) is.addr,
-        (literal (codes " {") refl, (u_short (codes "ratio") 1 m.ratio refl is.ratio, (u_short (codes "priority-group") 0 m.priority refl is.priority, (literal (codes " }\n") refl, tt))))))
+    utf8_joined (codes "        " ∷ (addr_text m.addr ∷ (codes " {" ∷ (short_item (codes "ratio") 1 m.ratio ∷ (short_item (codes "priority-group") 0 m.priority ∷ (codes " }\n" ∷ [])))))) (
+      literal (codes "        ") refl,
+      (
+        run (addr_text m.addr) is.addr,
+        (literal (codes " {") refl, (u_short (codes "ratio") 1 m.ratio refl is.ratio, (u_short (codes "priority-group") 0 m.priority refl is.priority, (literal (codes " }\n") refl, tt)))),
+      ),
+    )
 
 u_pool_text : (p : PoolSettings) → PoolReads p → IsUtf8 (pool_text p)
 u_pool_text p is =
     u_stanza (codes "ltm pool ") p.name (pool_items p) refl (run p.name is.name)
-    (utf8_joined (mode_item p.method ∷ (number_item (codes "min-active-members") 0 p.min_active ∷ (members_item p.members ∷ [])))
-      (u_mode p.method,
-        (u_number (codes "min-active-members") 0 p.min_active refl is.active,
-          (u_lines (eqb (length p.members) 0) (codes "    members {\n") (member_lines p.members) refl (utf8_flat member_line MemberReads u_member p.members is.members), tt))))
+    (utf8_joined (mode_item p.method ∷ (number_item (codes "min-active-members") 0 p.min_active ∷ (members_item p.members ∷ []))) (
+      u_mode p.method,
+      (
+        u_number (codes "min-active-members") 0 p.min_active refl is.active,
+        (u_lines (eqb (length p.members) 0) (codes "    members {\n") (member_lines p.members) refl (utf8_flat member_line MemberReads u_member p.members is.members), tt),
+      ),
+    ))
 
 -- ---- rules and data groups
 
@@ -144,12 +154,17 @@ u_group : (g : GroupSettings) → GroupReads g → IsUtf8 (group_text g)
 u_group g is =
     u_stanza (codes "ltm data-group internal ") g.name (group_items g) refl (run g.name is.name)
     (utf8_joined (kind_item g.kind ∷ (records_item g.rows ∷ []))
-      (u_kind g.kind, (u_lines (eqb (length g.rows) 0) (codes "    records {\n") (records g.rows) refl (utf8_flat data_record RowReads u_row g.rows is.rows), tt)))
+    (u_kind g.kind, (u_lines (eqb (length g.rows) 0) (codes "    records {\n") (records g.rows) refl (utf8_flat data_record RowReads u_row g.rows is.rows), tt)))
 
 pub printed_utf8 : (C : LoadedConfig) → ConfigReads C → IsUtf8 (printed C)
 printed_utf8 C is =
-    utf8_joined (limits C.settings ∷ (servers_text C.settings.virtuals ∷ (pools_text C.settings.pools ∷ (rules_text C.rules ∷ (groups_text C.settings.groups ∷ [])))))
-    (u_limits C.settings is.limits,
-      (utf8_flat server_text ServerReads u_server C.settings.virtuals is.servers,
-        (utf8_flat pool_text PoolReads u_pool_text C.settings.pools is.pools,
-          (utf8_flat rule_text RuleReads u_rule C.rules is.rules, (utf8_flat group_text GroupReads u_group C.settings.groups is.groups, tt)))))
+    utf8_joined (limits C.settings ∷ (servers_text C.settings.virtuals ∷ (pools_text C.settings.pools ∷ (rules_text C.rules ∷ (groups_text C.settings.groups ∷ []))))) (
+      u_limits C.settings is.limits,
+      (
+        utf8_flat server_text ServerReads u_server C.settings.virtuals is.servers,
+        (
+          utf8_flat pool_text PoolReads u_pool_text C.settings.pools is.pools,
+          (utf8_flat rule_text RuleReads u_rule C.rules is.rules, (utf8_flat group_text GroupReads u_group C.settings.groups is.groups, tt)),
+        ),
+      ),
+    )

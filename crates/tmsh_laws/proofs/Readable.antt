@@ -166,8 +166,8 @@ module _ (before : List ℕ → Option (List ℕ)) (top : Members) (rs : List Lo
         small = number.small;
         active = number.digits;
         members =
-          all_hold member_of member_members (bad_member v own prefix) (refuses_member v own prefix) MemberReads
-          (λ i m f. let q = prefix_of (item_place prefix key.members.name i) in member_reads own q i m (member_parts v own q i m f)) 0 old all;
+            all_hold member_of member_members (bad_member v own prefix) (refuses_member v own prefix) MemberReads
+            (λ i m f. let q = prefix_of (item_place prefix key.members.name i) in member_reads own q i m (member_parts v own q i m f)) 0 old all;
       }
 
   -- ---- data groups
@@ -197,7 +197,7 @@ module _ (before : List ℕ → Option (List ℕ)) (top : Members) (rs : List Lo
       by_table None there here_ more = absurd (cc)
       by_table (Some ms) there here_ more =
           let named : r.rule.name ≡ unwrap_or (text_at key.name_key.name ms) [] =
-              rule_named before d r all.0 ∙ ap (λ o. unwrap_or (option_and_then (text_at key.name_key.name) o) []) there in
+          rule_named before d r all.0 ∙ ap (λ o. unwrap_or (option_and_then (text_at key.name_key.name) o) []) there in
           (subst IsRun (sym named) (name_at (get_member key.name_key.name ms) (rule_name_ok at ms here_)), more)
 
   rules_read : (us : List LoadedRule) → Each (λ r. IsRun r.rule.name) us → Each (λ r. is_unbalanced r.text.bytes ≡ false) us → Each (λ r. is_not_utf8 r.text.bytes ≡ false) us → Each RuleReads us
@@ -226,8 +226,8 @@ module _ (before : List ℕ → Option (List ℕ)) (top : Members) (rs : List Lo
         servers = all_hold server_of server_members (bad n Virtual) (refuses n Virtual) ServerReads server_reads 0 (items_at key.servers top) is.servers;
         pools = all_hold pool_of pool_members (bad n Pool) (refuses n Pool) PoolReads pool_reads 0 (items_at key.pools top) is.pools;
         rules =
-          rules_read rs (rules_named 0 (items_at key.rules top) rs loaded is.rules) (none_such is_unbalanced 0 rs printable.balanced) (none_such is_not_utf8 0 rs printable.utf8);
+            rules_read rs (rules_named 0 (items_at key.rules top) rs loaded is.rules) (none_such is_unbalanced 0 rs printable.balanced) (none_such is_not_utf8 0 rs printable.utf8);
         groups =
-          both_read S.groups
-          (all_hold group_of group_members (bad n Group) (refuses n Group) (λ g. IsRun g.name) group_named 0 (items_at key.groups top) is.groups) texts;
+            both_read S.groups
+            (all_hold group_of group_members (bad n Group) (refuses n Group) (λ g. IsRun g.name) group_named 0 (items_at key.groups top) is.groups) texts;
       }

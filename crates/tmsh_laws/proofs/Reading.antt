@@ -76,14 +76,14 @@ module _ (g h : Gap) (b : ℕ) (between : gap_after g b ≡ Some h) (rest : List
       let len : gap_len g (b ∷ rest) ≡ n + 1 = rw between refl in
       let at : drop (n + 1) (b ∷ rest) ≡ drop n rest = ap (λ k. drop k (b ∷ rest)) (add-one n) in
       let part : (k : ℕ) (bytes : List ℕ) → k ≡ n + 1 → bytes ≡ drop n rest → record { token = (token_at bytes).token; start = k; end = k + (token_at bytes).end } ≡ with_more (record { token = f.token; start = n; end = n + f.end }) =
-          λ k bytes p q. ap₂ (λ j x. record { token = (token_at x).token; start = j; end = j + (token_at x).end }) p q ∙ ap (λ e. record { token = f.token; start = n + 1; end = e }) (omega arith) in
+      λ k bytes p q. ap₂ (λ j x. record { token = (token_at x).token; start = j; end = j + (token_at x).end }) p q ∙ ap (λ e. record { token = f.token; start = n + 1; end = e }) (omega arith) in
       part (gap_len g (b ∷ rest)) (drop (gap_len g (b ∷ rest)) (b ∷ rest)) len (ap (λ k. drop k (b ∷ rest)) len ∙ at)
 
   module _ (s : Sketch) (plain : wants_text s.next ≡ false) where
     answer_more : answer g s (b ∷ rest) ≡ later (answer h s rest)
     answer_more =
         let here : found_in (wants_text s.next) g (b ∷ rest) ≡ with_more (found_in (wants_text s.next) h rest) =
-            ap (λ w. found_in w g (b ∷ rest)) plain ∙ plain_there g (b ∷ rest) ∙ found_more ∙ ap with_more (sym (plain_there h rest)) ∙ ap (λ w. with_more (found_in w h rest)) (sym plain) in
+        ap (λ w. found_in w g (b ∷ rest)) plain ∙ plain_there g (b ∷ rest) ∙ found_more ∙ ap with_more (sym (plain_there h rest)) ∙ ap (λ w. with_more (found_in w h rest)) (sym plain) in
         ap (moved_by s) here ∙ later_moved s (found_in (wants_text s.next) h rest) (no_token (wants_text s.next) h rest)
 
     -- read from the next byte on, read from this one on

@@ -161,7 +161,7 @@ good_ip ip h =
     let to_a : Each Good (a ++ dot) = good_both a dot (good_decimal (ip / 2 ^ 24) (omega (arith, h))) good_dot in
     let to_b : Each Good (((a ++ dot) ++ b) ++ dot) = good_both ((a ++ dot) ++ b) dot (good_both (a ++ dot) b to_a (good_decimal (ip / 2 ^ 16 % 256) (omega (arith, h)))) good_dot in
     let to_c : Each Good (((((a ++ dot) ++ b) ++ dot) ++ c) ++ dot) =
-        good_both ((((a ++ dot) ++ b) ++ dot) ++ c) dot (good_both (((a ++ dot) ++ b) ++ dot) c to_b (good_decimal (ip / 2 ^ 8 % 256) (omega (arith, h)))) good_dot in
+    good_both ((((a ++ dot) ++ b) ++ dot) ++ c) dot (good_both (((a ++ dot) ++ b) ++ dot) c to_b (good_decimal (ip / 2 ^ 8 % 256) (omega (arith, h)))) good_dot in
     good_both (((((a ++ dot) ++ b) ++ dot) ++ c) ++ dot) d to_c (good_decimal (ip % 256) (omega (arith, h)))
 
 good_addr : (a : Addr) → a.ip < 2 ^ 32 → a.port < 2 ^ 16 → IsRun (addr_text a)

@@ -228,29 +228,37 @@ module _ (servers listens pools rules servers_ listens_ pools_ rules_ : List ℕ
 
   new_parts : Parts servers_ listens_ pools_ rules_ prefix at d
   new_parts = record {
-    front =
-      (flawless d key.name_key (get_member (codes "name") ms) new_name is.front.0,
-        (flawless d key.listen (get_member (codes "listen") ms) new_listen is.front.1.0,
-          (flawless d key.http (http_entry v.http) new_http (http_ok v.http),
-            (flawless d key.pool_name (get_member (codes "pool") ms) new_pool is.front.1.1.1.0,
-              (flawless d key.persist (persist_entry v.persist) new_persist (persist_ok v.persist), tt)))));
+    front = (
+      flawless d key.name_key (get_member (codes "name") ms) new_name is.front.0,
+      (
+        flawless d key.listen (get_member (codes "listen") ms) new_listen is.front.1.0,
+        (
+          flawless d key.http (http_entry v.http) new_http (http_ok v.http),
+          (
+            flawless d key.pool_name (get_member (codes "pool") ms) new_pool is.front.1.1.1.0,
+            (flawless d key.persist (persist_entry v.persist) new_persist (persist_ok v.persist), tt),
+          ),
+        ),
+      ),
+    );
     cookie = still_cookie;
-    back =
-      (flawless d key.persist_timeout (number_entry 180 v.persist_timeout) new_timeout (number_ok 1 86400 180 (codes "persist_timeout") v.persist_timeout timeout_in),
-        (flawless d key.rule_names (array_entry old) new_rules (array_ok (codes "rules") (2 ^ 64 - 1) (get_member (codes "rules") ms) old refl is.back.1.0), tt));
+    back = (
+      flawless d key.persist_timeout (number_entry 180 v.persist_timeout) new_timeout (number_ok 1 86400 180 (codes "persist_timeout") v.persist_timeout timeout_in),
+      (flawless d key.rule_names (array_entry old) new_rules (array_ok (codes "rules") (2 ^ 64 - 1) (get_member (codes "rules") ms) old refl is.back.1.0), tt),
+    );
     unknown = all_known prefix virtual_keys (server_entries v) no_members (refl, (refl, (refl, (refl, (refl, (refl, (refl, tt))))))) refl;
     once_name =
-      ap (faults_of (key_place prefix key.name_key.name)) (ap (λ o. twice servers_ at (option_and_then as_str o)) new_name ∙ same_twice servers_ servers same_servers at (text_at key.name_key.name ms))
-      ∙ is.once_name;
+        ap (faults_of (key_place prefix key.name_key.name)) (ap (λ o. twice servers_ at (option_and_then as_str o)) new_name ∙ same_twice servers_ servers same_servers at (text_at key.name_key.name ms))
+        ∙ is.once_name;
     once_listen =
-      ap (faults_of (key_place prefix key.listen.name)) (ap (λ o. twice listens_ at (option_and_then as_str o)) new_listen ∙ same_twice listens_ listens same_listens at (text_at key.listen.name ms))
-      ∙ is.once_listen;
+        ap (faults_of (key_place prefix key.listen.name)) (ap (λ o. twice listens_ at (option_and_then as_str o)) new_listen ∙ same_twice listens_ listens same_listens at (text_at key.listen.name ms))
+        ∙ is.once_listen;
     there =
-      ap (faults_of (key_place prefix key.pool_name.name)) (ap (λ o. missing pools_ (option_and_then as_str o)) new_pool ∙ same_missing pools_ pools same_pools (text_at key.pool_name.name ms))
-      ∙ is.there;
+        ap (faults_of (key_place prefix key.pool_name.name)) (ap (λ o. missing pools_ (option_and_then as_str o)) new_pool ∙ same_missing pools_ pools same_pools (text_at key.pool_name.name ms))
+        ∙ is.there;
     its =
-      ap (λ o. rules_of rules_ prefix (option_and_then as_array o)) new_rules ∙ rules_says rules_ prefix old
-      ∙ still_there rules (first_place None old) prefix rules_ same_rules 0 old old_rules;
+        ap (λ o. rules_of rules_ prefix (option_and_then as_array o)) new_rules ∙ rules_says rules_ prefix old
+        ∙ still_there rules (first_place None old) prefix rules_ same_rules 0 old old_rules;
   }
 
   -- what it says

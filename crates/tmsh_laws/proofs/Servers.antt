@@ -107,15 +107,15 @@ module _ (s : Sketch) (m : Members) where
       let t = server (with_member (codes "rules") (array en) m) in
       by_chain LineStart LineStart (server m) t (codes "    rules {" ∷ (named_rules (name ∷ names) ∷ (codes " }\n" ∷ [])))
       (λ rest u all.
-        let behind = 125 ∷ (10 ∷ rest) in
-        let texts = named_rules (name ∷ names) ++ (32 ∷ behind) in
-        let ended : ReadsAll Within (naming en) (32 ∷ behind) u = blank (naming en) u refl behind (close_all Within (naming en) t u refl (10 ∷ rest) refl refl (newline t u refl rest all)) in
-        let read : ReadsAll Within (naming no_items) texts u =
-            subst (λ x. ReadsAll Within (naming no_items) x u) (sym (spaced (name ∷ names) behind)) (names_all (name ∷ names) each no_items behind u ended) in
-        indent (server m) u refl (codes "rules" ++ (32 ∷ (123 ∷ texts)))
-        (run_within (server m) v u refl (codes "rules") 32 (123 ∷ texts) (run_of (codes "rules") refl) refl (keyword s block.Server item_.RuleNames (codes "rules") m refl none)
-        (blank v u refl (123 ∷ texts)
-        (open_all Within v (naming no_items) u refl texts refl refl read))))
+      let behind = 125 ∷ (10 ∷ rest) in
+      let texts = named_rules (name ∷ names) ++ (32 ∷ behind) in
+      let ended : ReadsAll Within (naming en) (32 ∷ behind) u = blank (naming en) u refl behind (close_all Within (naming en) t u refl (10 ∷ rest) refl refl (newline t u refl rest all)) in
+      let read : ReadsAll Within (naming no_items) texts u =
+      subst (λ x. ReadsAll Within (naming no_items) x u) (sym (spaced (name ∷ names) behind)) (names_all (name ∷ names) each no_items behind u ended) in
+      indent (server m) u refl (codes "rules" ++ (32 ∷ (123 ∷ texts)))
+      (run_within (server m) v u refl (codes "rules") 32 (123 ∷ texts) (run_of (codes "rules") refl) refl (keyword s block.Server item_.RuleNames (codes "rules") m refl none)
+      (blank v u refl (123 ∷ texts)
+      (open_all Within v (naming no_items) u refl texts refl refl read))))
 
   rules_go : (names : List (List ℕ)) → Each IsRun names → is_some (get_member (codes "rules") m) ≡ false
       → Goes LineStart (server m) (rules_item names) LineStart (server (put (codes "rules") (array_entry (names_items names)) m))
@@ -123,7 +123,7 @@ module _ (s : Sketch) (m : Members) where
   rules_go (name ∷ names) each none =
       let text = joined (codes "    rules {" ∷ (named_rules (name ∷ names) ∷ (codes " }\n" ∷ []))) in
       let goes : Goes LineStart (server m) text LineStart (server (with_member (codes "rules") (array (names_items (name ∷ names))) m)) =
-          subst (λ en. Goes LineStart (server m) text LineStart (server (with_member (codes "rules") (array en) m))) (pushed_is string (name ∷ names)) (some_names name names each none) in
+      subst (λ en. Goes LineStart (server m) text LineStart (server (with_member (codes "rules") (array en) m))) (pushed_is string (name ∷ names)) (some_names name names each none) in
       subst (λ x. Goes LineStart (server m) (if x then [] else text) LineStart (server (with_member (codes "rules") (array (names_items (name ∷ names))) m))) (sym (not_none name names)) goes
 
   -- ---- the other items
@@ -144,7 +144,7 @@ module _ (s : Sketch) (m : Members) where
       let last = 10 ∷ rest in
       indent (server m) u refl (codes "profiles" ++ (32 ∷ (123 ∷ (32 ∷ (codes "http" ++ (32 ∷ (125 ∷ last)))))))
       (run_within (server m) v u refl (codes "profiles") 32 (123 ∷ (32 ∷ (codes "http" ++ (32 ∷ (125 ∷ last))))) (run_of (codes "profiles") refl) refl
-        (keyword s block.Server item_.Http (codes "profiles") m refl none)
+      (keyword s block.Server item_.Http (codes "profiles") m refl none)
       (blank v u refl (123 ∷ (32 ∷ (codes "http" ++ (32 ∷ (125 ∷ last)))))
       (open_all Within v h u refl (32 ∷ (codes "http" ++ (32 ∷ (125 ∷ last)))) refl refl
       (blank h u refl (codes "http" ++ (32 ∷ (125 ∷ last)))

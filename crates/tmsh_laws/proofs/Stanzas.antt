@@ -93,11 +93,11 @@ pub stanza_goes : (s t : Sketch) (b : Block) (sec : Section) (w name items : Lis
 stanza_goes s t b sec w name items m opens run_w is run goes closes =
     by_chain LineStart LineStart (idle s next.Stanza) (idle t next.Stanza) ((108 ∷ (116 ∷ (109 ∷ (32 ∷ (w ++ (32 ∷ [])))))) ∷ (name ∷ (codes " {\n" ∷ (items ∷ (codes "}\n" ∷ [])))))
     (λ rest u all.
-      let behind = 125 ∷ (10 ∷ rest) in
-      let after = name ++ (32 ∷ (123 ∷ (10 ∷ (items ++ behind)))) in
-      subst (λ x. ReadsAll LineStart (idle s next.Stanza) (108 ∷ (116 ∷ (109 ∷ (32 ∷ x)))) u) (sym (append_assoc w (32 ∷ []) after))
-      (section_all s u b sec opens w name (items ++ behind) run_w is run
-      (goes behind u (ends_line (among s b m) (idle t next.Stanza) refl refl closes rest u all))))
+    let behind = 125 ∷ (10 ∷ rest) in
+    let after = name ++ (32 ∷ (123 ∷ (10 ∷ (items ++ behind)))) in
+    subst (λ x. ReadsAll LineStart (idle s next.Stanza) (108 ∷ (116 ∷ (109 ∷ (32 ∷ x)))) u) (sym (append_assoc w (32 ∷ []) after))
+    (section_all s u b sec opens w name (items ++ behind) run_w is run
+    (goes behind u (ends_line (among s b m) (idle t next.Stanza) refl refl closes rest u all))))
 
 -- ---- numbers
 

@@ -124,16 +124,16 @@ module _ (C : LoadedConfig) (is : ConfigReads C) where
         let ps = C.settings.pools in
         let gs = C.settings.groups in
         let f1 : s1 ≡ whole C b (tables server_members vs) no_items no_items no_items =
-            many_servers vs s0 ∙ ap (λ x. whole C b x no_items no_items no_items) (pushed_is (λ v. table (server_members v)) vs) in
+        many_servers vs s0 ∙ ap (λ x. whole C b x no_items no_items no_items) (pushed_is (λ v. table (server_members v)) vs) in
         let f2 : s2 ≡ whole C b (tables server_members vs) (tables pool_members ps) no_items no_items =
-            ap (λ s. fold with_pool s ps) f1 ∙ many_pools ps (whole C b (tables server_members vs) no_items no_items no_items)
-            ∙ ap (λ x. whole C b (tables server_members vs) x no_items no_items) (pushed_is (λ p. table (pool_members p)) ps) in
+        ap (λ s. fold with_pool s ps) f1 ∙ many_pools ps (whole C b (tables server_members vs) no_items no_items no_items)
+        ∙ ap (λ x. whole C b (tables server_members vs) x no_items no_items) (pushed_is (λ p. table (pool_members p)) ps) in
         let f3 : s3 ≡ whole C b (tables server_members vs) (tables pool_members ps) (tables rule_members C.rules) no_items =
-            ap (λ s. fold with_rule s C.rules) f2 ∙ many_rules C.rules (whole C b (tables server_members vs) (tables pool_members ps) no_items no_items)
-            ∙ ap (λ x. whole C b (tables server_members vs) (tables pool_members ps) x no_items) (pushed_is (λ r. table (rule_members r)) C.rules) in
+        ap (λ s. fold with_rule s C.rules) f2 ∙ many_rules C.rules (whole C b (tables server_members vs) (tables pool_members ps) no_items no_items)
+        ∙ ap (λ x. whole C b (tables server_members vs) (tables pool_members ps) x no_items) (pushed_is (λ r. table (rule_members r)) C.rules) in
         let f4 : s4 ≡ whole C b (tables server_members vs) (tables pool_members ps) (tables rule_members C.rules) (tables group_members gs) =
-            ap (λ s. fold with_group s gs) f3 ∙ many_groups gs (whole C b (tables server_members vs) (tables pool_members ps) (tables rule_members C.rules) no_items)
-            ∙ ap (λ x. whole C b (tables server_members vs) (tables pool_members ps) (tables rule_members C.rules) x) (pushed_is (λ g. table (group_members g)) gs) in
+        ap (λ s. fold with_group s gs) f3 ∙ many_groups gs (whole C b (tables server_members vs) (tables pool_members ps) (tables rule_members C.rules) no_items)
+        ∙ ap (λ x. whole C b (tables server_members vs) (tables pool_members ps) (tables rule_members C.rules) x) (pushed_is (λ g. table (group_members g)) gs) in
         ap idles f4
 
     pub means_by : IsUtf8 (printed C) → Means (printed C) (config_members C)
