@@ -1,38 +1,36 @@
 -- The table of a configuration in print is one without faults, and says the same.
-use Rattle.std.proofs.Common.{◌≡◌, ℕ, suc, zero, ◌+◌, ◌≤◌, ◌<◌, Bool, true, false, ℤ, pos, negsuc, List, [], ◌∷◌, ◌++◌, map, Option, Some, None, refl, sym, ap, ap₂, subst, ◌∙◌, arith}
+use Rattle.std.proofs.Common.{◌≡◌, ℕ, suc, zero, ◌+◌, Bool, true, false, pos, List, [], ◌∷◌, ◌++◌, map, Option, Some, None, refl, sym, ap, ap₂, subst, ◌∙◌, arith}
 use Rattle.std.specs.Option.{option_or}
-use Rattle.std.specs.Prelude.{codes, if◌then◌else◌, is_some, option_and_then, option_map, slice_get, unwrap_or}
-use Rattle.data_groups.specs.Groups.{Row}
-use Rattle.toml.specs.Data.{Data, string, integer, float, boolean, datetime, array, table, Items, no_items, item, Members, no_members, as_array, as_integer, as_str, as_table, get_member}
-use Rattle.config.specs.Documents.{Names, document_fault, faults_with, item_faults, items_at, names_in, or_none, section_faults, section_from, section_key, section_of, table_faults}
-use Rattle.config.specs.Groups.{group_faults}
+use Rattle.std.specs.Prelude.{codes, is_some, option_and_then, option_map, slice_get}
+use Rattle.toml.specs.Data.{Data, string, integer, float, boolean, datetime, array, table, Items, no_items, item, Members, no_members, as_array, as_integer, as_table, get_member}
+use Rattle.config.specs.Documents.{Names, document_fault, faults_with, item_faults, items_at, names_in, or_none, section_faults, section_from, section_key, section_of}
 use Rattle.config.specs.Keys as key
 use Rattle.config.specs.Keys.{top_keys}
 use Rattle.config.specs.Loading.{AreLoaded}
-use Rattle.config.specs.Misplaced.{first_misplaced, misplaced_at, misplaced_rule, place_in, server_misplaced}
+use Rattle.config.specs.Misplaced.{first_misplaced, misplaced_at, place_in, server_misplaced}
 use Rattle.config.specs.Outcomes.{Configures, misplaced_of}
 use Rattle.config.specs.Places.{item_place, prefix_of}
 use Rattle.config.specs.Read.{array_at}
 use Rattle.config.specs.Settings.{each, group_item, group_of, pool_item, pool_of, server_item, server_of, settings_of, whole_at, whole_or}
 use Rattle.config.specs.Tables.{flaw_of, keys_faults, unknown_faults}
-use Rattle.config.specs.Texts.{first_place, text_at}
-use Rattle.config.specs.Values.{items_length, judged}
+use Rattle.config.specs.Texts.{first_place}
+use Rattle.config.specs.Values.{judged}
 use Rattle.config.specs.Versions.{version_said}
 use Rattle.config.specs.declared.config.GroupSettings.{GroupSettings}
 use Rattle.config.specs.declared.config.PoolSettings.{PoolSettings}
 use Rattle.config.specs.declared.config.Settings.{Settings}
 use Rattle.config.specs.declared.config.VirtualSettings.{VirtualSettings}
 use Rattle.config.specs.declared.fault.ConfigFault.{ConfigFault}
-use Rattle.config.proofs.DocumentTypes.{Group, Misplaced, One, Pool, Rule, Section, Two, Version, Virtual, by_version}
+use Rattle.config.proofs.DocumentTypes.{Group, One, Pool, Rule, Section, Two, Version, Virtual, by_version}
 use Rattle.config.specs.declared.reader.LoadedConfig.{LoadedConfig}
 use Rattle.config.specs.declared.rule_text.LoadedRule.{LoadedRule}
 use Rattle.tmsh_laws.proofs.GroupKept.{GroupKept, all_rules_kept, all_still_loaded, group_kept, rules_long, rules_places}
 use Rattle.tmsh_laws.proofs.Kept.{Flawless, InRange, all_known, array_ok, array_says, at_key, each_keys, flawless, has_none, keys_each, no_back, no_front, none, none_told, number_ok, number_says, range_is, range_of, whole_kept}
-use Rattle.tmsh_laws.proofs.Lines.{Each, number_entry}
+use Rattle.tmsh_laws.proofs.Lines.{number_entry}
 use Rattle.tmsh_laws.proofs.PoolKept.{PoolKept, absent, pool_kept}
 use Rattle.tmsh_laws.proofs.ServerKept.{ServerKept, server_kept}
-use Rattle.tmsh_laws.proofs.Tabled.{all_kept, all_say, anew, as_many, from, same_places, told}
-use Rattle.tmsh_laws.proofs.Tables.{Entries, array_entry, config_members, group_members, limit_entries, pool_members, puts, rule_members, section_entries, server_members, tables}
+use Rattle.tmsh_laws.proofs.Tabled.{all_kept, all_say, anew, as_many, from, same_places}
+use Rattle.tmsh_laws.proofs.Tables.{Entries, array_entry, config_members, group_members, pool_members, rule_members, section_entries, server_members, tables}
 use Rattle.tmsh_laws.specs.ReadBack.{in_one_text, in_place}
 
 -- ---- sections

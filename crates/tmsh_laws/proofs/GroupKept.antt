@@ -12,7 +12,6 @@ use Rattle.rule_loader.specs.declared.load_fault.RuleFault.{RuleFault}
 use Rattle.rule_loader.specs.declared.rule.Rule.{Rule as LoadedScript}
 use Rattle.tcl_trees.specs.Pieces.{all_commands}
 use Rattle.toml.specs.Data.{Data, string, array, table, Items, no_items, item, Members, no_members, as_array, as_str, as_table, get_member}
-use Rattle.toml.specs.View.{items_of}
 use Rattle.config.specs.Documents.{Names, item_faults, or_none, section_from, section_key}
 use Rattle.config.specs.EventWords.{misplaced_in}
 use Rattle.config.specs.Faults.{fault_at}
@@ -22,7 +21,7 @@ use Rattle.config.specs.Keys.{group_keys, rule_keys}
 use Rattle.config.specs.Loading.{AreLoaded, HasText, IsLoaded, file_name, rule_name}
 use Rattle.config.specs.Names.{once_faults, twice}
 use Rattle.config.specs.Places.{item_place, key_place, prefix_of}
-use Rattle.config.specs.Read.{among, array_at, chosen}
+use Rattle.config.specs.Read.{among, array_at}
 use Rattle.config.specs.Rules.{rule_faults, source_faults}
 use Rattle.config.specs.Settings.{each, given, group_of, one, row_item}
 use Rattle.config.specs.Tables.{faults_of, flaw_of, keys_faults, unknown_faults}

@@ -1,18 +1,17 @@
 -- What is read of a data group, and of a rule, in print.
-use Rattle.std.proofs.Common.{◌≡◌, ℕ, ◌≤◌, Bool, true, false, not, ◌&&◌, eqb, List, [], ◌∷◌, ◌++◌, append_assoc, append-nil, length, map, Option, Some, None, refl, sym, ap, subst, ◌∙◌}
-use Rattle.std.specs.Prelude.{codes, flat_map, fold, if◌then◌else◌, is_some, option_map, pos}
+use Rattle.std.proofs.Common.{◌≡◌, ℕ, Bool, true, false, not, ◌&&◌, eqb, List, [], ◌∷◌, ◌++◌, length, Some, None, refl, sym, ap, subst}
+use Rattle.std.specs.Prelude.{codes, if◌then◌else◌, is_some}
 use Rattle.std.specs.Str.{is_utf8}
-use Rattle.toml.specs.Data.{Data, string, array, table, Items, no_items, item as one_item, Members, no_members, get_member, push_item}
+use Rattle.toml.specs.Data.{string, array, table, Items, no_items, item as one_item, Members, no_members, get_member, push_item}
 use Rattle.config.specs.declared.config.GroupSettings.{GroupSettings}
 use Rattle.config.specs.declared.rule_text.LoadedRule.{LoadedRule}
 use Rattle.data_groups.specs.Groups.{Row}
 use Rattle.data_groups.specs.declared.kind.GroupKind.{GroupKind}
 use Rattle.data_groups.specs.declared.kind.GroupKind.TheVariants.{String, Ip, Integer}
 use Rattle.tmsh_laws.proofs.Lines.{Each, Goes, all_go, blank, by_chain, indent, indent_twice, item_goes, joined_chain, newline, nothing, put}
-use Rattle.tmsh_laws.proofs.Marks.{printed_token}
 use Rattle.tmsh_laws.proofs.Reading.{IsRun, ReadsAll, close_all, open_all, rule_all, run_of, run_within, word_all}
 use Rattle.tmsh_laws.proofs.Servers.{contains, keyword, lacks, not_none, piece, pushed, pushed_is}
-use Rattle.tmsh_laws.proofs.Stanzas.{among, idle, ltm_all, now, stanza_goes, value}
+use Rattle.tmsh_laws.proofs.Stanzas.{among, idle, ltm_all, now, value}
 use Rattle.tmsh_laws.proofs.Tables.{Entries, array_entry, group_entries, group_members, kind_word, puts, row_items, rows_items, rule_members}
 use Rattle.tmsh_read.specs.Grammar.{step}
 use Rattle.tmsh_read.specs.Sketch.{Sketch, closed}
@@ -22,7 +21,7 @@ use Rattle.tmsh_read.proofs.ItemKinds as item_
 use Rattle.tmsh_read.proofs.NextKinds as next
 use Rattle.tmsh_read.proofs.BlockKinds as block
 use Rattle.tmsh_read.proofs.SectionKinds as section
-use Rattle.tmsh_read.proofs.TokenKinds.{Open, Close, Run, Quoted, Braced}
+use Rattle.tmsh_read.proofs.TokenKinds.{Close, Run, Quoted}
 use Rattle.tmsh_text.specs.Braces.{is_balanced}
 use Rattle.tmsh_text.specs.Items.{item, joined}
 use Rattle.tmsh_text.specs.Printed.{data_item, data_record, group_items, group_text, kind_item, records, records_item, rule_text}

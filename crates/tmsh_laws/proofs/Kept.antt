@@ -1,20 +1,19 @@
 -- Values at the keys of a configuration, as they are printed.
-use Rattle.std.proofs.Common.{◌≡◌, ℕ, ◌≤◌, ◌<◌, ◌^◌, ℤ, pos, negsuc, Bool, true, false, ◌&&◌, eqb, List, [], ◌∷◌, ◌++◌, Option, Some, None, Ordering, Less, Equal, Greater, refl, sym, ap, subst, ◌∙◌, arith}
+use Rattle.std.proofs.Common.{◌≡◌, ℕ, ◌≤◌, ℤ, pos, negsuc, Bool, true, false, ◌&&◌, eqb, List, [], ◌∷◌, ◌++◌, Option, Some, None, Less, Equal, Greater, refl, sym, ap, subst, ◌∙◌, arith}
 use Rattle.std.proofs.lemmas.Bool.{and_parts, eqb-true}
 use Rattle.std.proofs.lemmas.Bool.Decides.{nat_tests}
 use Rattle.std.proofs.lemmas.Slice.Eq.{bytes_eq-Decides}
 use Rattle.std.specs.Cmp.Lexicographic.{slice_cmp}
-use Rattle.std.specs.Int.{cast_unsigned, w32}
 use Rattle.std.specs.Option.{option_map_or}
 use Rattle.std.specs.Ordering.{match_ordering, nat_cmp}
-use Rattle.std.specs.Prelude.{fold, if◌then◌else◌, int_le, is_some, nat_le, option_and_then, option_map, unwrap_or}
+use Rattle.std.specs.Prelude.{fold, if◌then◌else◌, is_some, nat_le, option_and_then, option_map, unwrap_or}
 use Rattle.std.specs.Str.{bytes_eq}
 use Rattle.px_bytes.specs.Address.{addr_text}
 use Rattle.px_bytes.specs.declared.addr.Addr.{Addr}
 use Rattle.tcl_encodings.specs.Addr.{addr_of, spells_addr, written_addr}
-use Rattle.toml.specs.Data.{Data, string, integer, float, boolean, datetime, array, table, Items, no_items, item, Members, no_members, member, as_array, as_bool, as_integer, as_str, get_member}
+use Rattle.toml.specs.Data.{Data, string, integer, float, boolean, datetime, array, table, Items, no_items, item, Members, no_members, member, as_array, as_integer, as_str, get_member}
 use Rattle.config.specs.Documents.{document_fault, document_faults, or_none}
-use Rattle.config.specs.Faults.{better, comes_first, fault_at, told_of}
+use Rattle.config.specs.Faults.{better, comes_first, told_of}
 use Rattle.config.specs.Forms.{has_form}
 use Rattle.config.specs.Keys as key
 use Rattle.config.specs.Keys.{KeyKind, TableKey, whole}
@@ -25,8 +24,8 @@ use Rattle.config.specs.Tables.{faults_of, flaw_of, is_known, key_faults, key_fl
 use Rattle.config.specs.Values.{few, in_range, items_length, judged}
 use Rattle.config.specs.declared.fault.ConfigFault.{ConfigFault}
 use Rattle.config.specs.declared.fault.ConfigFaultKind.{ConfigFaultKind}
-use Rattle.config.specs.declared.fault.ConfigFaultKind.TheVariants.{NoSuch, Range, Twice}
-use Rattle.config.proofs.DocumentTypes.{Address, Any, Form}
+use Rattle.config.specs.declared.fault.ConfigFaultKind.TheVariants.{NoSuch, Twice}
+use Rattle.config.proofs.DocumentTypes.{Any, Form}
 use Rattle.tmsh_laws.proofs.Lines.{Each, number_entry, put}
 use Rattle.tmsh_laws.proofs.Lookups.{found, get_puts, or_else, or_nothing}
 use Rattle.tmsh_laws.proofs.Tables.{Entries, array_entry, puts}

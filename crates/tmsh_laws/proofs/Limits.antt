@@ -1,27 +1,23 @@
 -- What is read of the limits of a configuration in print.
-use Rattle.std.proofs.Common.{◌≡◌, ℕ, ◌≤◌, Bool, true, false, eqb, List, [], ◌∷◌, ◌++◌, length, Option, Some, None, refl, sym, ap, subst, ◌∙◌}
+use Rattle.std.proofs.Common.{◌≡◌, ℕ, ◌≤◌, Bool, true, false, eqb, List, [], ◌∷◌, ◌++◌, length, Some, None, refl, sym, ap, subst, ◌∙◌}
 use Rattle.std.proofs.lemmas.Bool.{false≢true}
 use Rattle.std.specs.Fmt.{decimal}
 use Rattle.std.specs.Prelude.{codes, if◌then◌else◌, is_some, option_map, pos}
-use Rattle.toml.specs.Data.{Data, integer, Items, no_items, Members, no_members, get_member}
+use Rattle.toml.specs.Data.{integer, no_items, Members, no_members, get_member}
 use Rattle.config.specs.declared.config.Settings.{Settings}
 use Rattle.tmsh_laws.proofs.Lines.{Goes, blank, by_chain, newline, nothing, number_entry, put}
-use Rattle.tmsh_laws.proofs.Reading.{IsRun, ReadsAll, close_all, open_all, run_all, run_of, run_within}
+use Rattle.tmsh_laws.proofs.Reading.{IsRun, close_all, open_all, run_all, run_of, run_within}
 use Rattle.tmsh_laws.proofs.Servers.{lacks, not_none, piece}
 use Rattle.tmsh_laws.proofs.Stanzas.{number_goes}
 use Rattle.tmsh_laws.proofs.Tables.{Entries, limit_entries, puts}
-use Rattle.tmsh_read.specs.Grammar.{step}
-use Rattle.tmsh_read.specs.Items.{number}
 use Rattle.tmsh_read.specs.Reading as reading
 use Rattle.tmsh_read.specs.Sketch.{Sketch, stored}
-use Rattle.tmsh_read.specs.Tables.{with_member}
 use Rattle.tmsh_read.proofs.GapKinds.{LineStart, Within}
 use Rattle.tmsh_read.proofs.ReaderTypes.{Item, Next}
 use Rattle.tmsh_read.proofs.ItemKinds as item_
 use Rattle.tmsh_read.proofs.NextKinds as next
 use Rattle.tmsh_read.proofs.BlockKinds as block
-use Rattle.tmsh_read.proofs.TokenKinds.{Open, Close, Run}
-use Rattle.tmsh_text.specs.Items.{item, joined, number_item, stanza}
+use Rattle.tmsh_text.specs.Items.{item, number_item, stanza}
 use Rattle.tmsh_text.specs.Printed.{limit_items, limits}
 
 -- so much was read, and nothing but limits

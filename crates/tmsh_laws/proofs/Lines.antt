@@ -1,17 +1,16 @@
 -- Pieces of a text: whatever is read behind a piece is read with it.
 use Rattle.std.proofs.Common.{◌≡◌, ℕ, Bool, true, false, eqb, List, [], ◌∷◌, ◌++◌, append_assoc, Option, Some, None, refl, sym, ap, subst, ◌∙◌}
-use Rattle.std.specs.Fmt.{decimal}
 use Rattle.std.specs.Prelude.{codes, flat_map, fold, if◌then◌else◌, pos}
 use Rattle.toml.specs.Data.{Data, Members, integer}
-use Rattle.tmsh_laws.proofs.Reading.{IsRun, ReadsAll, close_all, open_all, run_within, white}
+use Rattle.tmsh_laws.proofs.Reading.{IsRun, ReadsAll, close_all, run_within, white}
 use Rattle.tmsh_read.specs.Grammar.{step}
 use Rattle.tmsh_read.specs.Reading.{wants_text}
 use Rattle.tmsh_read.specs.Sketch.{Sketch}
 use Rattle.tmsh_read.specs.Tables.{with_member}
 use Rattle.tmsh_read.proofs.ReaderTypes.{Gap}
 use Rattle.tmsh_read.proofs.GapKinds.{LineStart, Within}
-use Rattle.tmsh_read.proofs.TokenKinds.{Open, Close, Run}
-use Rattle.tmsh_text.specs.Items.{item, joined, number_item, short_item}
+use Rattle.tmsh_read.proofs.TokenKinds.{Close, Run}
+use Rattle.tmsh_text.specs.Items.{item, joined}
 
 abbrev pub Goes : Gap → Sketch → List ℕ → Gap → Sketch → Type 0
 Goes g s text h t = (rest : List ℕ) (u : Sketch) → ReadsAll h t rest u → ReadsAll g s (text ++ rest) u

@@ -1,11 +1,11 @@
 -- The table of a pool in print is one without faults, and says the same.
-use Rattle.std.proofs.Common.{◌≡◌, ℕ, ◌+◌, ◌≤◌, ◌<◌, Bool, true, false, ◌||◌, List, [], ◌∷◌, ◌++◌, Option, Some, None, Ordering, Less, Equal, Greater, refl, sym, ap, ap₂, subst, ◌∙◌, arith}
+use Rattle.std.proofs.Common.{◌≡◌, ℕ, ◌+◌, ◌≤◌, Bool, true, false, List, [], ◌∷◌, ◌++◌, Option, Some, None, Less, Equal, Greater, refl, sym, ap, subst, ◌∙◌, arith}
 use Rattle.std.proofs.lemmas.Bool.{false≢true}
 use Rattle.std.proofs.lemmas.Bool.Decides.{nat_tests}
 use Rattle.std.proofs.lemmas.Map.Lookups.{exact_bytes}
 use Rattle.std.specs.Cmp.Lexicographic.{slice_cmp}
 use Rattle.std.specs.Ordering.{match_ordering, nat_cmp}
-use Rattle.std.specs.Prelude.{codes, cond, if◌then◌else◌, min, nat_le, option_and_then, option_map, unwrap_or}
+use Rattle.std.specs.Prelude.{codes, cond, if◌then◌else◌, min, nat_le, option_and_then, unwrap_or}
 use Rattle.pools.specs.declared.member.Member.{Member}
 use Rattle.pools.specs.declared.member.Method.{Method}
 use Rattle.pools.specs.declared.member.Method.TheVariants.{RoundRobin, Ratio}
@@ -21,18 +21,18 @@ use Rattle.config.specs.Names.{once_faults, twice}
 use Rattle.config.specs.Places.{item_place, key_place, prefix_of}
 use Rattle.config.specs.Pools.{member_at, member_faults, members_from, members_of, pool_faults, pool_keys_faults}
 use Rattle.config.specs.Read.{among, array_at, chosen, member_count, tables_at, tables_in}
-use Rattle.config.specs.Settings.{addr_at, each, given, member_item, member_of, method_of, no_addr, one, pool_of, priority_of, ratio_of, whole_at, whole_or}
+use Rattle.config.specs.Settings.{addr_at, each, given, member_item, member_of, method_of, no_addr, pool_of, priority_of, ratio_of, whole_at, whole_or}
 use Rattle.config.specs.Tables.{faults_of, flaw_of, is_known, keys_faults, unknown_at, unknown_faults}
-use Rattle.config.specs.Texts.{first_from, first_place, text_at}
+use Rattle.config.specs.Texts.{first_place, text_at}
 use Rattle.config.specs.Values.{items_length}
 use Rattle.config.specs.declared.config.PoolSettings.{PoolSettings}
 use Rattle.config.specs.declared.fault.ConfigFault.{ConfigFault}
-use Rattle.config.specs.declared.fault.ConfigFaultKind.TheVariants.{UnknownKey, WrongKind}
+use Rattle.config.specs.declared.fault.ConfigFaultKind.TheVariants.{UnknownKey}
 use Rattle.config.proofs.DocumentTypes.{Address, Name, One, Two, Version, by_version}
 use Rattle.tmsh_laws.proofs.Kept.{Flawless, InRange, addr_back, all_known, array_ok, array_says, at_key, each_keys, flawless, keys_each, no_back, no_front, none, number_ok, number_says, required_text, same_twice, whole_kept}
 use Rattle.tmsh_laws.proofs.Lines.{Each, number_entry}
-use Rattle.tmsh_laws.proofs.Tabled.{all_kept, all_say, anew, as_many, as_many_tables, from, same_places, told}
-use Rattle.tmsh_laws.proofs.Tables.{array_entry, member_entries, member_members, method_entry, pool_entries, pool_members, tables}
+use Rattle.tmsh_laws.proofs.Tabled.{all_kept, all_say, anew, as_many, as_many_tables, from, same_places}
+use Rattle.tmsh_laws.proofs.Tables.{array_entry, member_entries, member_members, method_entry, pool_entries, pool_members}
 
 -- ---- keys that aren't there
 

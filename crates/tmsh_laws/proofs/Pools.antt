@@ -1,8 +1,8 @@
 -- What is read of a pool in print.
-use Rattle.std.proofs.Common.{◌≡◌, ℕ, ◌≤◌, Bool, true, false, eqb, List, [], ◌∷◌, ◌++◌, length, map, Option, Some, None, refl, sym, ap, subst, ◌∙◌}
+use Rattle.std.proofs.Common.{◌≡◌, ℕ, ◌≤◌, Bool, true, false, eqb, List, [], ◌∷◌, ◌++◌, Some, None, refl, sym, ap, subst, ◌∙◌}
 use Rattle.std.specs.Fmt.{decimal}
-use Rattle.std.specs.Prelude.{codes, flat_map, fold, if◌then◌else◌, is_some, option_map, pos}
-use Rattle.toml.specs.Data.{Data, string, integer, array, table, Items, no_items, Members, no_members, get_member, push_item}
+use Rattle.std.specs.Prelude.{codes, if◌then◌else◌, is_some, option_map, pos}
+use Rattle.toml.specs.Data.{string, integer, array, table, Items, no_items, Members, no_members, get_member, push_item}
 use Rattle.config.specs.declared.config.PoolSettings.{PoolSettings}
 use Rattle.pools.specs.declared.member.Member.{Member}
 use Rattle.pools.specs.declared.member.Method.{Method}
@@ -13,10 +13,10 @@ use Rattle.tmsh_laws.proofs.Marks.{number_back}
 use Rattle.tmsh_laws.proofs.Reading.{IsRun, ReadsAll, close_all, open_all, run_of, run_within}
 use Rattle.tmsh_laws.proofs.Servers.{keyword, lacks, not_none, piece, pushed, pushed_is}
 use Rattle.tmsh_laws.proofs.Stanzas.{among, idle, now, number_goes, stanza_goes, value}
-use Rattle.tmsh_laws.proofs.Tables.{Entries, array_entry, member_entries, member_members, method_entry, pool_entries, pool_members, puts, tables}
-use Rattle.tmsh_read.specs.Grammar.{keyword_step, step}
-use Rattle.tmsh_read.specs.Items.{item_of, number}
-use Rattle.tmsh_read.specs.Sketch.{Sketch, closed, has, stored, to}
+use Rattle.tmsh_laws.proofs.Tables.{Entries, array_entry, member_members, method_entry, pool_entries, pool_members, puts, tables}
+use Rattle.tmsh_read.specs.Grammar.{step}
+use Rattle.tmsh_read.specs.Items.{number}
+use Rattle.tmsh_read.specs.Sketch.{Sketch, stored}
 use Rattle.tmsh_read.specs.Tables.{with_member}
 use Rattle.tmsh_read.proofs.GapKinds.{LineStart, Within}
 use Rattle.tmsh_read.proofs.ReaderTypes.{Item}
@@ -24,8 +24,8 @@ use Rattle.tmsh_read.proofs.ItemKinds as item_
 use Rattle.tmsh_read.proofs.NextKinds as next
 use Rattle.tmsh_read.proofs.BlockKinds as block
 use Rattle.tmsh_read.proofs.SectionKinds as section
-use Rattle.tmsh_read.proofs.TokenKinds.{Open, Close, Run}
-use Rattle.tmsh_text.specs.Items.{item, joined, number_item, short_item}
+use Rattle.tmsh_read.proofs.TokenKinds.{Run}
+use Rattle.tmsh_text.specs.Items.{joined, number_item, short_item}
 use Rattle.tmsh_text.specs.Printed.{member_line, member_lines, members_item, mode_item, pool_items, pool_text}
 
 -- ---- members

@@ -29,7 +29,7 @@ use Rattle.tmsh_laws.proofs.Servers.{MaybeRun, ServerReads}
 use Rattle.tmsh_laws.proofs.Utf8.{literal, utf8_flat, utf8_if, utf8_joined, utf8_word}
 use Rattle.tmsh_laws.proofs.Whole.{ConfigReads}
 use Rattle.tmsh_text.specs.Items.{item, joined, number_item, short_item, stanza}
-use Rattle.tmsh_text.specs.Printed.{data_item, data_record, group_items, group_text, groups_text, http_item, kind_item, limit_items, limits, limits_with, member_line, member_lines, members_item, mode_item, named_rules, persist_item, pool_item, pool_items, pool_text, pools_text, printed, records, records_item, rule_text, rules_item, rules_text, server_items, server_text, servers_text}
+use Rattle.tmsh_text.specs.Printed.{data_item, data_record, group_items, group_text, groups_text, http_item, kind_item, limit_items, limits, member_line, member_lines, members_item, mode_item, named_rules, persist_item, pool_item, pool_items, pool_text, pools_text, printed, records, records_item, rule_text, rules_item, rules_text, server_items, server_text, servers_text}
 use Rattle.tmsh_text.specs.Words.{word}
 
 run : (w : List ℕ) → IsRun w → IsUtf8 w

@@ -1,42 +1,35 @@
 -- What a document without faults says is read back from print.
-use Rattle.std.proofs.Common.{◌≡◌, ℕ, ◌+◌, ◌≤◌, ◌<◌, Bool, true, false, not, List, [], ◌∷◌, ◌++◌, map, Option, Some, None, refl, sym, ap, subst, ◌∙◌, arith}
+use Rattle.std.proofs.Common.{◌≡◌, ℕ, ◌+◌, ◌≤◌, Bool, true, false, not, List, [], ◌∷◌, ◌++◌, Option, Some, None, refl, sym, ap, subst, ◌∙◌, arith}
 use Rattle.std.proofs.lemmas.Bool.{false≢true}
-use Rattle.std.specs.Prelude.{codes, if◌then◌else◌, is_some, min, option_and_then, option_map, unwrap_or}
+use Rattle.std.specs.Prelude.{codes, if◌then◌else◌, is_some, option_and_then, unwrap_or}
 use Rattle.std.specs.Str.{is_utf8}
-use Rattle.toml.specs.Data.{Data, string, Items, no_items, item, Members, as_str, as_table, get_member}
-use Rattle.config.specs.Documents.{Names, item_faults, items_at, names_in, or_none, section_from, section_key}
-use Rattle.config.specs.Groups.{group_faults}
+use Rattle.toml.specs.Data.{Data, Items, no_items, item, Members, as_str, as_table, get_member}
+use Rattle.config.specs.Documents.{Names, items_at, names_in, or_none}
 use Rattle.config.specs.Keys as key
 use Rattle.config.specs.Keys.{rule_keys}
 use Rattle.config.specs.Loading.{AreLoaded}
 use Rattle.config.specs.Names.{missing, twice}
 use Rattle.config.specs.Places.{item_place, key_place, prefix_of}
-use Rattle.config.specs.Read.{array_at, member_count, tables_at}
+use Rattle.config.specs.Read.{array_at, member_count}
 use Rattle.config.specs.Settings.{each, group_of, member_of, pool_of, priority_of, ratio_of, server_of, settings_of, text_item, whole_at, one}
-use Rattle.config.specs.Tables.{faults_of, flaw_of, keys_faults, unknown_faults}
-use Rattle.config.specs.Texts.{first_from, first_place, text_at}
+use Rattle.config.specs.Tables.{faults_of, flaw_of, keys_faults}
+use Rattle.config.specs.Texts.{first_place, text_at}
 use Rattle.config.specs.Virtuals.{rule_faults, rules_from}
 use Rattle.config.specs.declared.config.GroupSettings.{GroupSettings}
-use Rattle.config.specs.declared.config.PoolSettings.{PoolSettings}
 use Rattle.config.specs.declared.config.Settings.{Settings}
-use Rattle.config.specs.declared.config.VirtualSettings.{VirtualSettings}
 use Rattle.config.specs.declared.fault.ConfigFaultKind.TheVariants.{NoSuch}
 use Rattle.config.proofs.DocumentTypes.{Group, Name, Pool, Rule, Virtual}
-use Rattle.config.specs.declared.reader.LoadedConfig.{LoadedConfig}
 use Rattle.config.specs.declared.rule_text.LoadedRule.{LoadedRule}
-use Rattle.config.specs.Forms.{is_name}
-use Rattle.pools.specs.declared.member.Member.{Member}
 use Rattle.tmsh_laws.proofs.DocumentKept.{DocumentParts, bad, budget_in, connections_in, idle_in, prefix_at, refuses, rows_in}
 use Rattle.tmsh_laws.proofs.GroupKept.{rule_named}
 use Rattle.tmsh_laws.proofs.Groups.{GroupReads, RowReads, RuleReads}
 use Rattle.tmsh_laws.proofs.Kept.{Flawless, InRange, keys_each, no_back, no_flaw, no_front, required_text, whole_kept}
-use Rattle.tmsh_laws.proofs.Limits.{LimitsRead}
 use Rattle.tmsh_laws.proofs.Lines.{Each}
-use Rattle.tmsh_laws.proofs.PoolKept.{MemberParts, PoolParts, bad as bad_member, bad_from as bad_members_from, member_parts, members_in, pool_parts, refuses as refuses_member, small_priority, small_ratio}
+use Rattle.tmsh_laws.proofs.PoolKept.{MemberParts, bad as bad_member, bad_from as bad_members_from, member_parts, members_in, pool_parts, refuses as refuses_member, small_priority, small_ratio}
 use Rattle.tmsh_laws.proofs.Pools.{MemberReads, PoolReads}
 use Rattle.tmsh_laws.proofs.Reading.{IsRun}
 use Rattle.tmsh_laws.proofs.Runs.{addr_run, name_run, number_is}
-use Rattle.tmsh_laws.proofs.ServerKept.{Parts, parts, rules_in}
+use Rattle.tmsh_laws.proofs.ServerKept.{parts, rules_in}
 use Rattle.tmsh_laws.proofs.Servers.{MaybeRun, ServerReads}
 use Rattle.tmsh_laws.proofs.Tabled.{all_hold, found_holds, from}
 use Rattle.tmsh_laws.proofs.Tables.{group_members, member_members, pool_members, server_members}

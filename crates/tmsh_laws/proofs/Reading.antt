@@ -1,5 +1,5 @@
 -- What is read of a text to its end, wherever it begins.
-use Rattle.std.proofs.Common.{◌≡◌, ℕ, suc, ◌+◌, Bool, true, false, not, ◌&&◌, eqb, List, [], ◌∷◌, ◌++◌, append_assoc, length, drop, Option, Some, None, Result, Ok, Err, refl, sym, ap, ap₂, subst, ◌∙◌, add-one, arith}
+use Rattle.std.proofs.Common.{◌≡◌, ℕ, suc, ◌+◌, Bool, true, false, not, ◌&&◌, eqb, List, [], ◌∷◌, ◌++◌, length, drop, Option, Some, None, Result, Ok, Err, refl, sym, ap, ap₂, subst, ◌∙◌, add-one, arith}
 use Rattle.std.proofs.Math.Seq.{drop-append-add, drop-append_seam}
 use Rattle.std.proofs.lemmas.Bool.{and_parts, false≢true}
 use Rattle.std.proofs.lemmas.Bool.Decides.{nat_tests}
@@ -13,7 +13,7 @@ use Rattle.tmsh_read.specs.Reading.{Move, ends, stops, goes, Reads, ended, stopp
 use Rattle.tmsh_read.specs.Sketch.{Sketch}
 use Rattle.tmsh_read.specs.Tokens.{found_in, gap_after, gap_len, is_mark, plain_found, token_at}
 use Rattle.tmsh_read.proofs.ReaderTypes.{Found, Gap, Next, Token}
-use Rattle.tmsh_read.proofs.GapKinds.{LineStart, Within}
+use Rattle.tmsh_read.proofs.GapKinds.{Within}
 use Rattle.tmsh_read.proofs.TokenKinds.{Open, Close, Run, Quoted, Braced}
 use Rattle.tmsh_text.specs.Braces.{is_balanced}
 use Rattle.tmsh_text.specs.Words.{is_plain, quoted, word}

@@ -1,5 +1,5 @@
 -- What is printed is read back.
-use Rattle.std.proofs.Common.{◌≡◌, ℕ, List, [], ◌∷◌, Option, None, refl, sym, ap, subst, ◌∙◌}
+use Rattle.std.proofs.Common.{◌≡◌, ℕ, List, [], ◌∷◌, Option, None, sym, ap, subst}
 use Rattle.toml.specs.Data.{Members}
 use Rattle.config.specs.Documents.{document_fault, items_at}
 use Rattle.config.specs.Keys as key

@@ -1,5 +1,5 @@
 -- Names, addresses and numbers are runs.
-use Rattle.std.proofs.Common.{◌≡◌, ℕ, suc, ◌+◌, ◌/◌, ◌%◌, ◌^◌, ◌≤◌, ◌<◌, Bool, true, false, not, ◌&&◌, ◌||◌, eqb, List, [], ◌∷◌, ◌++◌, length, Option, Some, None, inl, inr, refl, sym, ap, subst, ◌∙◌, arith}
+use Rattle.std.proofs.Common.{◌≡◌, ℕ, ◌/◌, ◌%◌, ◌^◌, ◌≤◌, ◌<◌, Bool, true, false, ◌&&◌, eqb, List, [], ◌∷◌, ◌++◌, length, Option, Some, None, inl, inr, refl, sym, ap, subst, ◌∙◌, arith}
 use Rattle.std.proofs.lemmas.Bool.{and_parts, cases_Bool, eqb-true, false≢true}
 use Rattle.std.proofs.lemmas.Bool.Decides.{nat_tests}
 use Rattle.std.proofs.lemmas.Fmt.{decimal_is_IsNumeral, decimal_nonempty}
@@ -8,14 +8,13 @@ use Rattle.std.proofs.lemmas.Str.{is_utf8-from_IsUtf8, IsUtf8-append, IsUtf8-nil
 use Rattle.std.proofs.lemmas.Str.Parse.{digit_from_value}
 use Rattle.std.specs.Fmt.{decimal}
 use Rattle.std.specs.List.{list_all}
-use Rattle.std.specs.Net.Text.{dotted_text}
 use Rattle.std.specs.Prelude.{IsUtf8, codes, if◌then◌else◌, is_some, nat_le, nat_lt, option_and_then, unwrap_or}
 use Rattle.std.specs.Str.{bytes_eq}
 use Rattle.std.specs.Str.Parse.{AllDigits}
 use Rattle.px_bytes.specs.Address.{addr_text, ip_text}
 use Rattle.px_bytes.specs.declared.addr.Addr.{Addr}
 use Rattle.tcl_encodings.specs.Addr.{addr_of, spells_addr, written_addr}
-use Rattle.toml.specs.Data.{Data, string, as_str}
+use Rattle.toml.specs.Data.{Data, as_str}
 use Rattle.config.specs.Forms.{is_name, is_name_byte}
 use Rattle.config.specs.Keys as key
 use Rattle.config.specs.Settings.{no_addr}

@@ -1,15 +1,14 @@
 -- The table of a virtual server in print is one without faults, and says the same.
-use Rattle.std.proofs.Common.{◌≡◌, ℕ, ◌+◌, ◌-◌, ◌^◌, ◌≤◌, Bool, true, false, not, ◌&&◌, eqb, List, [], ◌∷◌, ◌++◌, map, Option, Some, None, refl, sym, ap, ap₂, subst, ◌∙◌, arith}
+use Rattle.std.proofs.Common.{◌≡◌, ℕ, ◌+◌, ◌-◌, ◌^◌, ◌≤◌, Bool, true, false, not, ◌&&◌, eqb, List, [], ◌∷◌, ◌++◌, Option, Some, None, refl, sym, ap, ap₂, ◌∙◌, arith}
 use Rattle.std.proofs.lemmas.Bool.Decides.{nat_tests}
 use Rattle.std.specs.Option.{option_map_or}
-use Rattle.std.specs.Prelude.{codes, if◌then◌else◌, is_some, option_and_then, option_map, unwrap_or}
+use Rattle.std.specs.Prelude.{codes, if◌then◌else◌, option_and_then, unwrap_or}
 use Rattle.px_bytes.specs.Address.{addr_text}
 use Rattle.px_bytes.specs.declared.addr.Addr.{Addr}
 use Rattle.run_config.specs.declared.config.Persist.{Persist}
 use Rattle.run_config.specs.declared.config.Persist.TheVariants as persist
 use Rattle.tcl_encodings.specs.Addr.{addr_of}
-use Rattle.toml.specs.Data.{Data, string, boolean, Items, no_items, item, Members, no_members, as_array, as_bool, as_integer, as_str, get_member}
-use Rattle.toml.specs.View.{items_of}
+use Rattle.toml.specs.Data.{Data, string, Items, no_items, item, Members, no_members, as_array, as_bool, as_integer, as_str, get_member}
 use Rattle.config.specs.Documents.{or_none}
 use Rattle.config.specs.Faults.{fault_at}
 use Rattle.config.specs.Keys as key
@@ -20,13 +19,11 @@ use Rattle.config.specs.Read.{among, array_at, chosen, is_true, truth_at}
 use Rattle.config.specs.Settings.{addr_at, each, given, no_addr, one, persist_of, server_of, text_item, whole_at, whole_or}
 use Rattle.config.specs.Tables.{faults_of, flaw_of, keys_faults, unknown_faults}
 use Rattle.config.specs.Texts.{first_place, text_at}
-use Rattle.config.specs.Values.{items_length}
 use Rattle.config.specs.Virtuals.{by_cookie, cookie_faults, rule_faults, rules_from, rules_of, server_faults}
 use Rattle.config.specs.declared.config.VirtualSettings.{VirtualSettings}
-use Rattle.config.specs.declared.fault.ConfigFault.{ConfigFault}
 use Rattle.config.specs.declared.fault.ConfigFaultKind.TheVariants.{Range}
 use Rattle.config.proofs.DocumentTypes.{Address, Name}
-use Rattle.tmsh_laws.proofs.Kept.{Flawless, addr_back, all_known, array_ok, array_says, as_string, at_key, each_keys, flawless, keys_each, no_back, no_flaw, no_front, none, number_ok, number_says, optional_text, required_text, same_missing, same_twice, whole_kept}
+use Rattle.tmsh_laws.proofs.Kept.{Flawless, addr_back, all_known, array_ok, array_says, as_string, at_key, each_keys, flawless, keys_each, no_back, no_front, none, number_ok, number_says, optional_text, required_text, same_missing, same_twice, whole_kept}
 use Rattle.tmsh_laws.proofs.Lines.{Each, number_entry}
 use Rattle.tmsh_laws.proofs.Tables.{array_entry, http_entry, names_items, persist_entry, pool_entry, server_entries, server_members}
 

@@ -2,7 +2,7 @@
 use Rattle.std.proofs.Common.{◌≡◌, ℕ, ◌≤◌, Bool, true, false, eqb, List, [], ◌∷◌, ◌++◌, append_assoc, append-nil, length, map, Option, Some, None, refl, sym, ap, subst, ◌∙◌, arith}
 use Rattle.std.proofs.lemmas.Bool.Decides.{nat_tests}
 use Rattle.std.specs.Fmt.{decimal}
-use Rattle.std.specs.Prelude.{codes, flat_map, fold, if◌then◌else◌, is_some, option_map, pos}
+use Rattle.std.specs.Prelude.{codes, fold, if◌then◌else◌, is_some, option_map, pos}
 use Rattle.toml.specs.Data.{Data, string, integer, boolean, array, table, Items, no_items, item as one_item, Members, no_members, get_member, push_item}
 use Rattle.toml.specs.View.{items_of}
 use Rattle.config.specs.declared.config.VirtualSettings.{VirtualSettings}
@@ -15,7 +15,7 @@ use Rattle.tmsh_laws.proofs.Reading.{IsRun, ReadsAll, close_all, open_all, run_o
 use Rattle.tmsh_laws.proofs.Stanzas.{among, idle, now, number_goes, stanza_goes, value}
 use Rattle.tmsh_laws.proofs.Tables.{Entries, array_entry, http_entry, names_items, persist_entry, pool_entry, puts, server_entries, server_members}
 use Rattle.tmsh_read.specs.Grammar.{keyword_step, step}
-use Rattle.tmsh_read.specs.Items.{item_of, key_of, number}
+use Rattle.tmsh_read.specs.Items.{item_of}
 use Rattle.tmsh_read.specs.Sketch.{Sketch, closed, has, stored, to}
 use Rattle.tmsh_read.specs.Tables.{with_member}
 use Rattle.tmsh_read.proofs.GapKinds.{LineStart, Within}
@@ -24,7 +24,7 @@ use Rattle.tmsh_read.proofs.ItemKinds as item_
 use Rattle.tmsh_read.proofs.NextKinds as next
 use Rattle.tmsh_read.proofs.BlockKinds as block
 use Rattle.tmsh_read.proofs.SectionKinds as section
-use Rattle.tmsh_read.proofs.TokenKinds.{Open, Close, Run}
+use Rattle.tmsh_read.proofs.TokenKinds.{Run}
 use Rattle.tmsh_text.specs.Items.{item, joined, number_item}
 use Rattle.tmsh_text.specs.Printed.{http_item, named_rules, persist_item, pool_item, rules_item, server_items, server_text}
 

@@ -1,26 +1,21 @@
 -- What is read of the stanzas of a configuration in print.
-use Rattle.std.proofs.Common.{◌≡◌, ℕ, ◌≤◌, Bool, true, false, not, ◌&&◌, eqb, List, [], ◌∷◌, ◌++◌, append_assoc, length, map, Option, Some, None, refl, sym, ap, subst, ◌∙◌, arith}
+use Rattle.std.proofs.Common.{◌≡◌, ℕ, ◌≤◌, eqb, List, [], ◌∷◌, ◌++◌, append_assoc, Some, refl, sym, ap, subst}
 use Rattle.std.specs.Fmt.{decimal}
-use Rattle.std.specs.Prelude.{codes, flat_map, fold, if◌then◌else◌, is_some, option_map, pos}
-use Rattle.std.specs.Str.{is_utf8}
-use Rattle.toml.specs.Data.{Data, string, integer, boolean, array, table, Items, no_items, item as one_item, Members, no_members, get_member, push_item}
-use Rattle.px_bytes.specs.Address.{addr_text}
-use Rattle.tmsh_laws.proofs.Lines.{Each, Goes, Plain, all_go, blank, both, by_chain, ends_line, indent, indent_twice, item_goes, newline, nothing, number_entry, put, unless_usual}
+use Rattle.std.specs.Prelude.{codes, pos}
+use Rattle.toml.specs.Data.{string, integer, Items, no_items, Members, no_members}
+use Rattle.tmsh_laws.proofs.Lines.{Goes, Plain, blank, by_chain, ends_line, item_goes, newline, number_entry, put, unless_usual}
 use Rattle.tmsh_laws.proofs.Marks.{number_back}
-use Rattle.tmsh_laws.proofs.Reading.{IsRun, ReadsAll, close_all, open_all, run_all, run_of, run_within}
+use Rattle.tmsh_laws.proofs.Reading.{IsRun, ReadsAll, open_all, run_all, run_of, run_within}
 use Rattle.tmsh_read.specs.Grammar.{step}
-use Rattle.tmsh_read.specs.Items.{item_of, block_of, key_of, number, shape_of}
-use Rattle.tmsh_read.specs.Sketch.{Sketch, begun, closed, has, is_whole, to}
+use Rattle.tmsh_read.specs.Items.{number}
+use Rattle.tmsh_read.specs.Sketch.{Sketch, begun}
 use Rattle.tmsh_read.specs.Stanzas.{after_name, section_word}
 use Rattle.tmsh_read.specs.Tables.{with_member}
-use Rattle.tmsh_read.proofs.ReaderTypes.{Block, Gap, Item, Next, Section}
+use Rattle.tmsh_read.proofs.ReaderTypes.{Block, Item, Next, Section}
 use Rattle.tmsh_read.proofs.GapKinds.{LineStart, Within}
-use Rattle.tmsh_read.proofs.ItemKinds as item_
 use Rattle.tmsh_read.proofs.NextKinds as next
-use Rattle.tmsh_read.proofs.BlockKinds as block
-use Rattle.tmsh_read.proofs.SectionKinds as section
-use Rattle.tmsh_read.proofs.TokenKinds.{Open, Close, Run}
-use Rattle.tmsh_text.specs.Items.{item, joined, number_item, short_item, stanza}
+use Rattle.tmsh_read.proofs.TokenKinds.{Close, Run}
+use Rattle.tmsh_text.specs.Items.{item, number_item, stanza}
 
 -- ---- what was read, by what is open
 

@@ -1,14 +1,13 @@
 -- Arrays of tables, each as it is printed of what it says.
-use Rattle.std.proofs.Common.{◌≡◌, ℕ, suc, ◌+◌, Bool, true, false, List, [], ◌∷◌, ◌++◌, map, Option, Some, None, refl, sym, ap, ap₂, subst, ◌∙◌}
+use Rattle.std.proofs.Common.{◌≡◌, ℕ, suc, ◌+◌, Bool, true, false, List, [], ◌∷◌, ◌++◌, Option, Some, None, refl, sym, ap, ap₂, subst}
 use Rattle.std.proofs.lemmas.Slice.Eq.{bytes_eq-Decides}
 use Rattle.std.specs.Option.{option_or}
 use Rattle.std.specs.Prelude.{if◌then◌else◌, is_some, option_and_then, option_map}
 use Rattle.std.specs.Str.{bytes_eq}
-use Rattle.toml.specs.Data.{Data, table, Items, no_items, item, Members, as_table, get_member}
-use Rattle.toml.specs.View.{items_of}
+use Rattle.toml.specs.Data.{Items, no_items, item, Members, as_table}
 use Rattle.config.specs.Read.{tables_in}
 use Rattle.config.specs.Settings.{each, one}
-use Rattle.config.specs.Texts.{first_from, here, text_at, text_in}
+use Rattle.config.specs.Texts.{first_from, here, text_at}
 use Rattle.config.specs.Values.{items_length}
 use Rattle.config.specs.declared.fault.ConfigFault.{ConfigFault}
 use Rattle.tmsh_laws.proofs.Kept.{no_back, no_front, none}

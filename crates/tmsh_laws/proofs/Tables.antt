@@ -1,7 +1,7 @@
 -- The table of what is printed of a configuration.
-use Rattle.std.proofs.Common.{◌≡◌, ℕ, Bool, true, false, List, [], ◌∷◌, map, Option, Some, None}
-use Rattle.std.specs.Prelude.{codes, fold, if◌then◌else◌, option_map, pos}
-use Rattle.toml.specs.Data.{Data, string, integer, boolean, array, table, Items, no_items, item, Members, no_members, push_item}
+use Rattle.std.proofs.Common.{ℕ, Bool, true, List, [], ◌∷◌, map, Option, Some, None}
+use Rattle.std.specs.Prelude.{codes, if◌then◌else◌, option_map, pos}
+use Rattle.toml.specs.Data.{Data, string, integer, boolean, array, table, Items, no_items, item, Members, no_members}
 use Rattle.toml.specs.View.{items_of}
 use Rattle.config.specs.declared.config.GroupSettings.{GroupSettings}
 use Rattle.config.specs.declared.config.PoolSettings.{PoolSettings}

@@ -1,10 +1,10 @@
 -- What is printed is UTF-8.
-use Rattle.std.proofs.Common.{◌≡◌, ℕ, zero, suc, ◌+◌, ◌/◌, ◌%◌, ◌<◌, ◌≤◌, Bool, true, false, not, ◌&&◌, ◌||◌, eqb, ltb, List, [], ◌∷◌, ◌++◌, append_assoc, append-nil, length, get_or, inl, inr, refl, sym, ap, ap₂, subst, ◌∙◌, arith}
-use Rattle.std.proofs.lemmas.Bool.{and_parts, cases_Bool, false≢true, ltb-true}
+use Rattle.std.proofs.Common.{◌≡◌, ℕ, suc, ◌+◌, ◌/◌, ◌%◌, ◌<◌, ◌≤◌, Bool, true, false, not, ◌&&◌, ◌||◌, eqb, ltb, List, [], ◌∷◌, ◌++◌, append_assoc, append-nil, length, get_or, inl, inr, refl, sym, ap, ap₂, subst, ◌∙◌, arith}
+use Rattle.std.proofs.lemmas.Bool.{and_parts, cases_Bool, ltb-true}
 use Rattle.std.proofs.lemmas.Bool.Decides.{nat_tests}
-use Rattle.std.proofs.lemmas.Str.{IsUtf8-append, IsUtf8-encode, IsUtf8-from_ascii, IsUtf8-from_is_utf8, IsUtf8-nil, encode_ascii, inside_one, is_utf8-from_IsUtf8}
+use Rattle.std.proofs.lemmas.Str.{IsUtf8-append, IsUtf8-encode, IsUtf8-from_is_utf8, IsUtf8-nil, encode_ascii, inside_one}
 use Rattle.std.specs.Char.{digit_char, encode_utf8}
-use Rattle.std.specs.Prelude.{IsUtf8, IsAscii, codes, encode_utf8_all, flat_map, if◌then◌else◌}
+use Rattle.std.specs.Prelude.{IsUtf8, codes, encode_utf8_all, flat_map, if◌then◌else◌}
 use Rattle.std.specs.Str.{all_scalars, is_utf8}
 use Rattle.px_bytes.specs.Hexadecimal.{hex_text}
 use Rattle.tmsh_laws.proofs.Ascii.{is_small, one_byte, small_utf8}

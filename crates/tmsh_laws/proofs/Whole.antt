@@ -1,7 +1,7 @@
 -- What is printed of a configuration means its table.
-use Rattle.std.proofs.Common.{◌≡◌, ℕ, Bool, List, [], ◌∷◌, ◌++◌, append-nil, map, Option, Some, None, Ok, refl, sym, ap, subst, ◌∙◌}
-use Rattle.std.specs.Prelude.{IsUtf8, codes, flat_map, fold, pos}
-use Rattle.toml.specs.Data.{Data, integer, table, Items, no_items, item, Members, no_members, push_item}
+use Rattle.std.proofs.Common.{◌≡◌, ℕ, Bool, List, [], ◌∷◌, ◌++◌, append-nil, Ok, refl, sym, ap, subst, ◌∙◌}
+use Rattle.std.specs.Prelude.{IsUtf8, codes, fold, pos}
+use Rattle.toml.specs.Data.{integer, table, Items, no_items, item, Members, no_members}
 use Rattle.config.specs.declared.config.GroupSettings.{GroupSettings}
 use Rattle.config.specs.declared.config.PoolSettings.{PoolSettings}
 use Rattle.config.specs.declared.config.VirtualSettings.{VirtualSettings}
@@ -14,13 +14,12 @@ use Rattle.tmsh_laws.proofs.Pools.{PoolReads, pool_goes, with_pool}
 use Rattle.tmsh_laws.proofs.Reading.{ReadsAll}
 use Rattle.tmsh_laws.proofs.Servers.{ServerReads, piece, pushed, pushed_is, server_goes, with_server}
 use Rattle.tmsh_laws.proofs.Stanzas.{idle}
-use Rattle.tmsh_laws.proofs.Tables.{array_entry, config_members, group_members, limit_entries, pool_members, puts, rule_members, section_entries, server_members, tables}
+use Rattle.tmsh_laws.proofs.Tables.{array_entry, config_members, group_members, limit_entries, pool_members, puts, rule_members, server_members, tables}
 use Rattle.tmsh_read.specs.Reading.{Means, Reads, ended, blank, finished, with_array}
 use Rattle.tmsh_read.specs.Sketch.{Sketch}
 use Rattle.tmsh_read.specs.Tables.{with_member}
 use Rattle.tmsh_read.proofs.GapKinds.{LineStart}
 use Rattle.tmsh_read.proofs.NextKinds as next
-use Rattle.tmsh_text.specs.Items.{joined}
 use Rattle.tmsh_text.specs.Printed.{group_text, groups_text, limits, pool_text, pools_text, printed, rule_text, rules_text, server_text, servers_text}
 
 pub record ConfigReads (C : LoadedConfig) : Type 0 where
