@@ -1,3 +1,4 @@
+use Rattle.forwarded_requests.proofs.PlacesFramed.{enter_framed}
 use Rattle.forwarded_requests.proofs.ReadBodies.{body_one}
 use Rattle.forwarded_requests.proofs.laws.body_is_one.Goals as goal
 
