@@ -1,5 +1,5 @@
 -- A request's body as it begins, and as bytes of it are gathered: the reader stands where the head says.
-use Rattle.std.proofs.Common.{◌≡◌, refl, sym, ap, subst, ◌∙◌, ℕ, zero, suc, ◌+◌, ◌-◌, ◌≤◌, Bool, true, false, true≢false, List, [], ◌∷◌, length, take, min, Option, Some, None, arith}
+use Rattle.std.proofs.Common.{◌≡◌, refl, sym, ap, subst, ◌∙◌, ℕ, zero, suc, ◌+◌, ◌-◌, ◌^◌, ◌<◌, ◌≤◌, Bool, true, false, true≢false, List, [], ◌∷◌, length, take, min, Option, Some, None, arith}
 use Rattle.std.specs.Prelude.{⊤, if◌then◌else◌}
 use Rattle.std.proofs.lemmas.List.{length-append, length-take}
 use Rattle.http_heads.specs.Fields.{Pair, named}
@@ -103,12 +103,15 @@ module _ (held : List ℕ) (ended : Bool) where
   at_end zero is = refl
   at_end (suc n) is = absurd (true≢false (sym is))
 
+  rest_in : (n : ℕ) → n < 16 ^ 15 → InChunks (in_chunk n)
+  rest_in zero small = tt
+  rest_in (suc n) small = (omega arith, small)
+
   byte_in : (s : BodyState) → InChunks s → part_of s held ended ≡ Byte → InChunks (after_byte s)
   byte_in state.FirstLine is part = absurd (subst LinePart part (first_lines held ended))
   byte_in state.NextLine is part = absurd (subst LinePart part (next_lines held ended))
   byte_in (state.Chunk zero) is part = absurd (omega (arith, is.0))
-  byte_in (state.Chunk (suc zero)) is part = tt
-  byte_in (state.Chunk (suc (suc n))) is part = (omega arith, omega (arith, is.1))
+  byte_in (state.Chunk (suc n)) is part = rest_in (suc n - 1) (omega (arith, is.1))
   byte_in (state.Left n) is part = absurd is
   byte_in state.ToEnd is part = absurd is
 

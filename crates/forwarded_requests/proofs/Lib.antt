@@ -16,6 +16,7 @@ pub mod PhasesFramed
 pub mod PlacesFramed
 pub mod ReadBodies
 pub mod ReadHeads
+mod Rows
 pub mod Sent
 pub mod SentParts
 pub mod Whole

@@ -138,8 +138,7 @@ module _ (finished : Bool) (link : Link) where
   goes_at HttpResponse to h framed is = response_at h (http_of h).answer is
   goes_at HttpResponseData to h framed is = response_at h (http_of h).answer is
   goes_at ServerData to h framed is = is
-  goes_at ServerClosed to h framed is = tt
-  goes_at ClientClosed to h framed is = tt
+  goes_at other to h framed is = tt
 
   ends_at : (ends : Option Ending) (p : Phase) (h : HostState) → At p h → At (unless_ended ends p) h
   ends_at None p h is = is

@@ -1,4 +1,3 @@
-use Rattle.forwarded_requests.proofs.PlacesFramed.{enter_framed}
 use Rattle.forwarded_requests.proofs.ReadBodies.{body_one}
 use Rattle.forwarded_requests.proofs.laws.body_is_one.Goals as goal
 
