@@ -30,7 +30,6 @@ use Rattle.forwarded_requests.proofs.HostFramed.{Awaits, Framed, UnlessAnswered,
 use Rattle.forwarded_requests.proofs.ItemsFramed.{FramedNext, FramedState, StaysFramed, Waiting, enters_next, finish_next, left_up, reads_framed, refused_next}
 use Rattle.forwarded_requests.proofs.PhasesFramed.{Answered, Enters, FramedPlace, InPhase, MayClose, awaits_may_close}
 use Rattle.forwarded_requests.proofs.PlacesFramed.{enter_framed, next_request_at}
-use Rattle.http_frames.specs.declared.state.BodyState.TheVariants as state
 use Rattle.px_bytes.specs.declared.fault.Reply.TheVariants as reply
 
 -- ---- a server connection is used again, or given up
@@ -60,7 +59,8 @@ module _ (g : Setup) where
       begins : UnlessAnswered (http_of h)
       begins = framed_kept (http_of l.host) (http_of h) (begun_kept ServerClosed (Left b) l.host) host
 
-      by_bodies : (bs : List Handler) → FramedState (at (bodies_left ServerClosed bs h (place (Retiring b) h)) (record l { server = leaving b l.server }))
+      by_bodies : (bs : List Handler)
+          → FramedState (at (bodies_left ServerClosed bs h (place (Retiring b) h)) (record l { server = leaving b l.server }))
       by_bodies [] = record { phase = retires; host = begins }
       by_bodies (body ∷ bs) = record { phase = closes; host = begins }
 
@@ -68,16 +68,19 @@ module _ (g : Setup) where
       → InPhase l.finished (link_of l.server) (GivingUp b) (http_of l.host) → FramedNext (giving_up_next g l b)
   giving_up_framed l BehindMessage up host is =
       let t = http_of (begun ServerClosed (Left BehindMessage) l.host) in
-      closing_framed l BehindMessage host (subst (λ k. MayClose l.finished k t) (sym (left_up BehindMessage l.server up)) (message_closes l.finished t)) tt
+      closing_framed l BehindMessage host
+      (subst (λ k. MayClose l.finished k t) (sym (left_up BehindMessage l.server up)) (message_closes l.finished t)) tt
   giving_up_framed l BeforeSelect up host is =
       let k = begun_kept ServerClosed (Left BeforeSelect) l.host in
       let t = http_of (begun ServerClosed (Left BeforeSelect) l.host) in
-      closing_framed l BeforeSelect host (awaits_may_close l.finished (link_of (leaving BeforeSelect l.server)) t (k.answered_by ∙ is)) (k.answered_by ∙ is)
+      closing_framed l BeforeSelect host (awaits_may_close l.finished (link_of (leaving BeforeSelect l.server)) t (k.answered_by ∙ is))
+      (k.answered_by ∙ is)
 
   pub retiring_framed : (l : TraceState) (b : Behind) → StaysFramed l → InPhase l.finished (link_of l.server) (Retiring b) (http_of l.host)
       → FramedNext (retiring_next l b)
   retiring_framed l BeforeSelect host is = record { phase = is; host = host }
-  retiring_framed l BehindMessage host is = record { phase = next_request_at l.finished (link_of (retired l.server)) l.host l.host; host = host }
+  retiring_framed l BehindMessage host is =
+      record { phase = next_request_at l.finished (link_of (retired l.server)) l.host l.host; host = host }
 
   -- ---- a server is selected
 
@@ -91,37 +94,46 @@ module _ (g : Setup) where
         by_pool (b ∷ bs) = record { phase = is; host = host }
     choosing_framed l h (PoolOf pool) host is = record { phase = is; host = host }
     choosing_framed l h (MemberOf pool a) host is = record { phase = is; host = host }
-    choosing_framed l h (NodeAt a) host is = enters_next g heads LbSelected (with_selected (Some (record { pool = []; addr = a })) h) l host is
+    choosing_framed l h (NodeAt a) host is =
+        enters_next g heads LbSelected (with_selected (Some (record { pool = []; addr = a })) h) l host is
 
-    selected_framed : (l : TraceState) (more : List Reply) (a : Option Addr) → StaysFramed l → Waiting l → FramedNext (selected_next g l more a)
+    selected_framed : (l : TraceState) (more : List Reply) (a : Option Addr) → StaysFramed l → Waiting l
+        → FramedNext (selected_next g l more a)
     selected_framed l more None host is = enters_next g heads LbFailed l.host (with_replies more l) host is
     selected_framed l more (Some a) host is =
         enters_next g heads LbSelected
-        (with_selected (Some (record { pool = target_pool l.host.net.pool l.host.net.target; addr = a })) l.host) (with_replies more l) host is
+        (with_selected (Some (record { pool = target_pool l.host.net.pool l.host.net.target; addr = a })) l.host) (with_replies more l)
+        host is
 
-    pub selecting_framed : (call : List (List ℕ)) (l : TraceState) (replies : List Reply) → StaysFramed l → Waiting l → FramedNext (selecting_next g call l replies)
+    pub selecting_framed : (call : List (List ℕ)) (l : TraceState) (replies : List Reply) → StaysFramed l → Waiting l
+        → FramedNext (selecting_next g call l replies)
     selecting_framed call l [] host is = tt
     selecting_framed call l (reply.Ok v ∷ more) host is = selected_framed l more (addr_of v) host is
     selecting_framed call l (reply.Fault f ∷ more) host is = selected_framed l more None host is
 
-    pub answering_framed : (l : TraceState) (connects : List (Option Stream)) → StaysFramed l → Waiting l → FramedNext (answering_next g l connects)
+    pub answering_framed : (l : TraceState) (connects : List (Option Stream)) → StaysFramed l → Waiting l
+        → FramedNext (answering_next g l connects)
     answering_framed l [] host is = tt
     answering_framed l (Some s ∷ more) host is =
         let k = serving_kept l.host in
-        let p = enter_framed l.finished Up g ServerConnected Up (serving l.host) (framed_kept (http_of l.host) (http_of (serving l.host)) k host) (k.answered_by ∙ is) in
+        let p = enter_framed l.finished Up g ServerConnected Up (serving l.host)
+        (framed_kept (http_of l.host) (http_of (serving l.host)) k host) (k.answered_by ∙ is) in
         record { phase = p.phase; host = p.host }
     answering_framed l (None ∷ more) host is =
         let p = enter_framed l.finished Absent g LbFailed Absent l.host host is in record { phase = p.phase; host = p.host }
 
     -- ---- bytes are collected, or passed on
 
-    fired_framed : (l : TraceState) (side : Side) (n : ℕ) (more : List Choice) → StaysFramed l → Waiting l → FramedNext (fired_next g l side n more)
+    fired_framed : (l : TraceState) (side : Side) (n : ℕ) (more : List Choice) → StaysFramed l → Waiting l
+        → FramedNext (fired_next g l side n more)
     fired_framed l Client n more host is =
-        let p = enter_framed l.finished (link_of l.server) g (data_event Client) (link_of l.server) (fired_host Client (take n l.client.unread) l.host) host is in
+        let p = enter_framed l.finished (link_of l.server) g (data_event Client) (link_of l.server)
+        (fired_host Client (take n l.client.unread) l.host) host is in
         record { phase = p.phase; host = p.host }
     fired_framed l Server n more host is =
         let link = link_of (read_server n l.server) in
-        let p = enter_framed l.finished link g (data_event Server) (link_of l.server) (fired_host Server (take n (stream_of Server l).unread) l.host) host is in
+        let p = enter_framed l.finished link g (data_event Server) (link_of l.server)
+        (fired_host Server (take n (stream_of Server l).unread) l.host) host is in
         record { phase = p.phase; host = p.host }
 
     pub relay_framed : (l : TraceState) (a : RelayAct) → StaysFramed l → Waiting l → FramedNext (relay_next g l a)
@@ -155,7 +167,8 @@ module _ (g : Setup) where
     client_on l zero s false h f is more = gathered_framed l Client h (λ e. f) is
     client_on l (suc n) s false h f is more = record { phase = more n refl; host = λ e. f }
 
-    pub client_framed : (l : TraceState) (wanted : ℕ) (s : BodyState) (p : Part) → part_of s l.client.unread l.client.ended ≡ p → StaysFramed l
+    pub client_framed : (l : TraceState) (wanted : ℕ) (s : BodyState) (p : Part) → part_of s l.client.unread l.client.ended ≡ p
+        → StaysFramed l
         → Gathers wanted s (http_of l.host) → FramedNext (gathering_next g l Client wanted s p)
     client_framed l wanted s Byte part host k =
         let h = http_of l.host in
@@ -165,8 +178,8 @@ module _ (g : Setup) where
         (byte_framed l.client.unread l.client.ended s h part wanted (host k.awaits) k) k.awaits
         (λ n less. byte_gathers l.client.unread l.client.ended s h part wanted n less k))
     client_framed l wanted s (Chunk n size) part host k =
-        reads_framed g heads l Client n _
-        (record { phase = line_gathers l.client.unread l.client.ended n wanted s (http_of l.host) size part (host k.awaits) k; host = host })
+        let phase = line_gathers l.client.unread l.client.ended n wanted s (http_of l.host) size part (host k.awaits) k in
+        reads_framed g heads l Client n _ (record { phase = phase; host = host })
     client_framed l wanted s (End n) part host k =
         let f = end_framed l.client.unread l.client.ended n wanted s (http_of l.host) part (host k.awaits) k in
         reads_framed g heads l Client n _ (gathered_framed l Client (http_at (with_whole (http_of l.host)) l.host) (λ e. f) k.awaits)

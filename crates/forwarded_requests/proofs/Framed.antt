@@ -124,6 +124,7 @@ heading_awaits finished link p h heading is = subst (λ q. InPhase finished link
 
 pub heads_framed : HeadsAreFramed
 heads_framed g client answers before l head heads is heading there =
-    let k = items_framed g heads (start g client answers) l before (start_framed g heads client answers) (start_orderly g client answers) is in
+    let from = start g client answers in
+    let k = items_framed g heads from l before (start_framed g heads client answers) (start_orderly g client answers) is in
     framed_head (http_of l.host) head there
     (k.host (heading_awaits l.finished (link_of l.server) l.phase (http_of l.host) heading k.phase))

@@ -17,9 +17,9 @@ use Rattle.conn_trace.specs.Fronts.{after_byte, in_chunk, is_at_end, one_less}
 use Rattle.conn_trace.specs.Http.{gathered_so, request_begun, wanted_more, with_gathered, with_whole}
 use Rattle.conn_trace.proofs.PendingFits.{less_one}
 use Rattle.forwarded_requests.specs.Forwarded.{ChunksStand, InChunks, Stands}
-use Rattle.forwarded_requests.proofs.Framings.{Said, Nothing, Length, Coded, said}
+use Rattle.forwarded_requests.proofs.Framings.{Said, Length, said}
 use Rattle.forwarded_requests.proofs.HostFramed.{Awaits, Framed}
-use Rattle.forwarded_requests.proofs.LineSizes.{LinePart, PiecePart, chunk_pieces, first_lines, left_pieces, line_sized, next_lines}
+use Rattle.forwarded_requests.proofs.LineSizes.{LinePart, PiecePart, first_lines, left_pieces, line_sized, next_lines}
 use Rattle.forwarded_requests.proofs.PassedFields.{coding, size}
 use Rattle.forwarded_requests.proofs.ReadHeads.{Tells}
 
@@ -93,7 +93,8 @@ gather_begins h n f awaits is =
 
 module _ (held : List ℕ) (ended : Bool) where
   -- there is one of a body whose length is told
-  byte_left : (left : ℕ) (text : List ℕ) (last : Bool) → part_of (state.Left left) text last ≡ Byte → (1 ≤ left) × (length (take 1 text) ≡ 1)
+  byte_left : (left : ℕ) (text : List ℕ) (last : Bool) → part_of (state.Left left) text last ≡ Byte
+      → (1 ≤ left) × (length (take 1 text) ≡ 1)
   byte_left zero text last is = absurd (cc)
   byte_left (suc n) [] true is = absurd (cc)
   byte_left (suc n) [] false is = absurd (cc)
@@ -127,7 +128,8 @@ module _ (held : List ℕ) (ended : Bool) where
     behind_byte = with_gathered (take 1 held) (after_byte s) h
 
     byte_stands : (b : Body) → Stands b h → ReadsOn b s h → Stands b behind_byte
-    byte_stands kind.None stands reads = absurd (let none = byte_left 0 held ended (subst (λ t. part_of t held ended ≡ Byte) reads part) in omega (arith, none.0))
+    byte_stands kind.None stands reads =
+        absurd (let none = byte_left 0 held ended (subst (λ t. part_of t held ended ≡ Byte) reads part) in omega (arith, none.0))
     byte_stands (kind.Length n) stands reads =
         let left : s ≡ state.Left stands.0 = sym reads ∙ stands.1 in
         let one = byte_left stands.0 held ended (subst (λ t. part_of t held ended ≡ Byte) left part) in (
@@ -140,7 +142,8 @@ module _ (held : List ℕ) (ended : Bool) where
     byte_stands kind.ToEnd stands reads = absurd stands
 
     byte_reads : (b : Body) → ReadsOn b s h → ReadsOn b (after_byte s) behind_byte
-    byte_reads kind.None reads = absurd (let none = byte_left 0 held ended (subst (λ t. part_of t held ended ≡ Byte) reads part) in omega (arith, none.0))
+    byte_reads kind.None reads =
+        absurd (let none = byte_left 0 held ended (subst (λ t. part_of t held ended ≡ Byte) reads part) in omega (arith, none.0))
     byte_reads (kind.Length n) reads = refl
     byte_reads kind.Chunked reads = byte_in s reads part
     byte_reads kind.ToEnd reads = absurd reads
@@ -174,13 +177,15 @@ module _ (held : List ℕ) (ended : Bool) (line : ℕ) where
 
   line_reads : (b : Body) (s : BodyState) (h : Http) (chunk : ℕ) → part_of s held ended ≡ Chunk line chunk → Stands b h → ReadsOn b s h
       → ReadsOn b (state.Chunk chunk) h
-  line_reads kind.None s h chunk part stands reads = absurd (no_line 0 chunk (subst (λ t. part_of t held ended ≡ Chunk line chunk) reads part))
+  line_reads kind.None s h chunk part stands reads =
+      absurd (no_line 0 chunk (subst (λ t. part_of t held ended ≡ Chunk line chunk) reads part))
   line_reads (kind.Length n) s h chunk part stands reads =
       absurd (no_line stands.0 chunk (subst (λ t. part_of t held ended ≡ Chunk line chunk) (sym reads ∙ stands.1) part))
   line_reads kind.Chunked s h chunk part stands reads = let sized = line_sized s held ended line chunk part in (sized.some, sized.small)
   line_reads kind.ToEnd s h chunk part stands reads = absurd stands
 
-  pub line_gathers : (wanted : ℕ) (s : BodyState) (h : Http) (chunk : ℕ) → part_of s held ended ≡ Chunk line chunk → Framed h → Gathers wanted s h
+  pub line_gathers : (wanted : ℕ) (s : BodyState) (h : Http) (chunk : ℕ) → part_of s held ended ≡ Chunk line chunk → Framed h
+      → Gathers wanted s h
       → Gathers wanted (state.Chunk chunk) h
   line_gathers wanted s h chunk part f k =
       record { awaits = k.awaits; reads = line_reads h.body s h chunk part f.stands k.reads; few = k.few; some = k.some }
@@ -189,7 +194,8 @@ module _ (held : List ℕ) (ended : Bool) (line : ℕ) where
   none_more zero is = refl
   none_more (suc n) is = absurd (subst PiecePart is (left_pieces n held ended))
 
-  end_stands : (b : Body) (s : BodyState) (h : Http) → part_of s held ended ≡ End line → Stands b h → ReadsOn b s h → Stands b (with_whole h)
+  end_stands : (b : Body) (s : BodyState) (h : Http) → part_of s held ended ≡ End line → Stands b h → ReadsOn b s h
+      → Stands b (with_whole h)
   end_stands kind.None s h part stands reads = (stands.0, refl)
   end_stands (kind.Length n) s h part stands reads =
       let none = none_more stands.0 (subst (λ t. part_of t held ended ≡ End line) (sym reads ∙ stands.1) part) in
@@ -197,5 +203,6 @@ module _ (held : List ℕ) (ended : Bool) (line : ℕ) where
   end_stands kind.Chunked s h part stands reads = tt
   end_stands kind.ToEnd s h part stands reads = absurd stands
 
-  pub end_framed : (wanted : ℕ) (s : BodyState) (h : Http) → part_of s held ended ≡ End line → Framed h → Gathers wanted s h → Framed (with_whole h)
+  pub end_framed : (wanted : ℕ) (s : BodyState) (h : Http) → part_of s held ended ≡ End line → Framed h → Gathers wanted s h
+      → Framed (with_whole h)
   end_framed wanted s h part f k = record { head = f.head; payload = f.payload; stands = end_stands h.body s h part f.stands k.reads }

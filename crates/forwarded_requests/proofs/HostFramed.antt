@@ -1,7 +1,7 @@
 -- What a connection knows of a request that isn't answered yet goes by what its head says, and each command of a rule keeps that.
-use Rattle.std.proofs.Common.{◌≡◌, refl, sym, ap, subst, ◌∙◌, ℕ, ◌+◌, ◌≤◌, Bool, true, false, List, [], length, Option, Some, None, option_map}
+use Rattle.std.proofs.Common.{◌≡◌, refl, sym, ap, subst, ◌∙◌, ℕ, ◌+◌, ◌≤◌, Bool, true, false, List, length, Option, Some, None, option_map}
 use Rattle.std.specs.Prelude.{⊤, if◌then◌else◌}
-use Rattle.px_bytes.specs.Host.{HostStep, Gives, Faults, Asks}
+use Rattle.px_bytes.specs.Host.{Gives, Faults, Asks}
 use Rattle.px_bytes.specs.declared.addr.Side.TheVariants.{Client}
 use Rattle.rule_model.specs.Laws.{state_after}
 use Rattle.event_order.specs.declared.event.EventName.{EventName}
@@ -189,10 +189,12 @@ module _ (groups : Groups) (words : List (List ℕ)) where
   net_kept : (h : HostState) → Kept (http_of h) (http_of (left (net_command groups h words)))
   net_kept h = subst (λ o. Kept (http_of h) (http_known o)) (sym (net_knows groups h words)) (kept_same (http_of h))
 
-  http_kept : (h : HostState) (http : Http) → h.http ≡ Some http → Kept (http_of h) (http_of (left (commands_by (Some http) groups h words)))
+  http_kept : (h : HostState) (http : Http) → h.http ≡ Some http
+      → Kept (http_of h) (http_of (left (commands_by (Some http) groups h words)))
   http_kept h http is = by_name (is_http (first_word words))
     where
-      by_name : (b : Bool) → Kept (http_of h) (http_of (left (if b then http_done h (http_step h.event http words) else net_command groups h words)))
+      by_name : (b : Bool)
+          → Kept (http_of h) (http_of (left (if b then http_done h (http_step h.event http words) else net_command groups h words)))
       by_name true =
           subst (Kept (http_of h)) (sym (done_known h (http_step h.event http words)))
           (subst (λ t. Kept t (http_left (http_step h.event http words))) (sym (ap http_known is)) (step_kept h.event http words))

@@ -1,61 +1,44 @@
 -- Behind each item a request that is on its way isn't answered yet, and goes by what its head says.
-use Rattle.std.proofs.Common.{◌≡◌, refl, sym, ap, subst, ◌∙◌, ℕ, zero, suc, List, [], ◌∷◌, take, Bool, true, false, true≢false, Option, Some, None, Result, Ok, Err, nat_eq}
+use Rattle.std.proofs.Common.{◌≡◌, refl, sym, ap, subst, ◌∙◌, ℕ, List, take, Bool, true, false, true≢false, Option, Some, None, Result, Ok, Err, nat_eq}
 use Rattle.std.specs.Prelude.{⊤, slice_get, if◌then◌else◌}
-use Rattle.px_bytes.specs.declared.addr.Addr.{Addr}
 use Rattle.px_bytes.specs.declared.addr.Side.{Side}
 use Rattle.px_bytes.specs.declared.addr.Side.TheVariants.{Client, Server}
 use Rattle.px_bytes.specs.declared.fault.HttpFault.{HttpFault}
 use Rattle.px_bytes.specs.declared.fault.HttpFault.TheVariants as fault
-use Rattle.px_bytes.specs.declared.fault.Reply.{Reply}
-use Rattle.px_bytes.specs.declared.fault.Reply.TheVariants as reply
 use Rattle.rule_model.specs.Laws.{state_after}
 use Rattle.rule_model.specs.Outcome.{Act, Outcome, Ends, Waits as Stops, uncaught_of}
 use Rattle.event_order.specs.declared.event.EventName.{EventName}
-use Rattle.event_order.specs.declared.event.EventName.TheVariants.{ServerConnected, ServerClosed, LbSelected, LbFailed, HttpRequest, HttpResponse}
-use Rattle.irule_net.specs.Steps.{target_pool}
-use Rattle.irule_net.specs.declared.state.Asks.{Asks}
-use Rattle.irule_net.specs.declared.state.Asks.TheVariants.{NotAsked, Stated}
-use Rattle.irule_net.specs.declared.state.Target.{Target}
-use Rattle.irule_net.specs.declared.state.Target.TheVariants.{Default, PoolOf, MemberOf, NodeAt}
-use Rattle.http_heads.specs.Fronts.{head_part}
+use Rattle.event_order.specs.declared.event.EventName.TheVariants.{HttpRequest, HttpResponse}
 use Rattle.http_heads.specs.declared.front.HeadPart.{HeadPart}
 use Rattle.http_heads.specs.declared.front.HeadPart.TheVariants.{HeadOf, StreamEnds, Faulty, NoHead}
 use Rattle.http_heads.specs.declared.line.Version.{Version}
 use Rattle.http_heads.specs.declared.line.Version.TheVariants.{Http10, Http11}
-use Rattle.http_frames.specs.Parts.{Part, Byte, Chunk, End, Pending, Bad, part_of}
+use Rattle.http_frames.specs.Parts.{Part, Byte, Chunk, End, Pending, Bad}
 use Rattle.http_frames.specs.declared.state.BodyState.{BodyState}
 use Rattle.http_frames.specs.declared.state.BodyState.TheVariants as state
-use Rattle.irule_http.specs.declared.state.Http.{Http}
 use Rattle.irule_http.specs.declared.state.Request.{Request}
 use Rattle.irule_http.specs.declared.state.Response.{Response}
 use Rattle.conn_trace.specs.Bodies.{act_next, bodies_next, ended_next, run_body}
-use Rattle.conn_trace.specs.Fronts.{after_byte, is_at_end, one_less}
-use Rattle.conn_trace.specs.Gates.{Counts, may_give}
-use Rattle.conn_trace.specs.Host.{HostState, http_of, with_loose, with_selected}
-use Rattle.conn_trace.specs.Http.{Heads, request_begun, the_heads, with_gathered, with_whole}
-use Rattle.conn_trace.specs.Item.{Choice, PassesOn, Fires, Reuses, Reason, Closed, CutBy, Http as HttpReason}
-use Rattle.conn_trace.specs.Messages.{answer_next, asked_version, behind_head, body_end_next, byte_gathered, dropping_next, fault_by, fault_next}
-use Rattle.conn_trace.specs.Messages.{gathered_on, gathered_place, gathering_next, giving_up_next, head_next, heading_next, http_at, interim_next}
+use Rattle.conn_trace.specs.Fronts.{after_byte}
+use Rattle.conn_trace.specs.Host.{HostState, http_of}
+use Rattle.conn_trace.specs.Http.{Heads, request_begun, the_heads}
+use Rattle.conn_trace.specs.Item.{Reason, Closed, Http as HttpReason}
+use Rattle.conn_trace.specs.Messages.{answer_next, asked_version, behind_head, body_end_next, dropping_next, fault_by, fault_next}
+use Rattle.conn_trace.specs.Messages.{head_next, heading_next, interim_next}
 use Rattle.conn_trace.specs.Messages.{is_counted, is_interim, moves_next, reads_next, request_host, request_next, response_host, response_next}
-use Rattle.conn_trace.specs.Messages.{retiring_next, reuse_next, sending_next, status_next}
-use Rattle.conn_trace.specs.Phases.{OrderlyIn}
-use Rattle.conn_trace.specs.Places.{Place, place, at, begun, bodies_left, data_event, enter, finish, gather_event, giving_up, is_up}
-use Rattle.conn_trace.specs.Relay.{RelayAct, BothDone, Passing, Firing, Resting, behind_fires, collect_act, fired_host, incoming, relay_act}
-use Rattle.conn_trace.specs.Routing.{behind_asked, behind_message, behind_retired, is_spent_link, next_request}
-use Rattle.conn_trace.specs.Selected.{addr_of}
+use Rattle.conn_trace.specs.Messages.{sending_next, status_next}
+use Rattle.conn_trace.specs.Places.{Place, place, at, enter, finish, is_up}
+use Rattle.conn_trace.specs.Routing.{behind_message, is_spent_link, next_request}
 use Rattle.conn_trace.specs.SentBodies.{chunk_line, is_answered, last_line}
 use Rattle.conn_trace.specs.Setup.{Handler, Setup}
-use Rattle.conn_trace.specs.State.{Bodies, Gated, Running, Failing, Phase, InEvent, AtHead, Continuing, Gathering, AtReuse, GivingUp, Retiring}
-use Rattle.conn_trace.specs.State.{Heading, Forwarding, Dropping, AtResponse, Choosing, Selecting, Connecting, Answering, Releasing, Relaying}
-use Rattle.conn_trace.specs.State.{Collecting, Finishing, Draining, Behind, BeforeSelect, BehindMessage, Stream, ServerSide, NoServer, Sought, There}
-use Rattle.conn_trace.specs.State.{Leaving, Retired, Link, Absent, Up, Left, link_of, leaving, TraceState, Next, Does, Waits, Over, stream_of, read_server}
-use Rattle.conn_trace.specs.State.{read_side, with_connects, with_replies}
-use Rattle.conn_trace.specs.Trace.{answering_next, choosing_next, collect_next, collecting_next, default_next, fired_next, phase_next, relay_next}
-use Rattle.conn_trace.specs.Trace.{selected_next, selecting_next, serving}
-use Rattle.forwarded_requests.proofs.GatherFramed.{Gathers, byte_framed, byte_gathers, end_framed, line_gathers, request_framed}
-use Rattle.forwarded_requests.proofs.HostFramed.{Awaits, Framed, UnlessAnswered, begun_kept, body_kept, framed_kept, serving_kept}
-use Rattle.forwarded_requests.proofs.PhasesFramed.{Answered, Enters, FramedPlace, InPhase, MayClose, Runs, awaits_may_close, may_close_kept, runs_kept}
-use Rattle.forwarded_requests.proofs.PlacesFramed.{asked_at, closed_framed, ended_framed, enter_framed, fault_framed, next_request_at}
+use Rattle.conn_trace.specs.State.{Bodies, Gated, Running, Failing, Phase, GivingUp}
+use Rattle.conn_trace.specs.State.{Forwarding, AtResponse}
+use Rattle.conn_trace.specs.State.{Behind, BehindMessage, ServerSide, NoServer, Sought, There}
+use Rattle.conn_trace.specs.State.{Leaving, Retired, Link, Left, link_of, leaving, TraceState, Next, Does, Waits, Over, stream_of, read_server}
+use Rattle.forwarded_requests.proofs.GatherFramed.{request_framed}
+use Rattle.forwarded_requests.proofs.HostFramed.{Awaits, Framed, UnlessAnswered, body_kept, framed_kept}
+use Rattle.forwarded_requests.proofs.PhasesFramed.{Enters, FramedPlace, InPhase, Runs, runs_kept}
+use Rattle.forwarded_requests.proofs.PlacesFramed.{closed_framed, ended_framed, enter_framed, fault_framed, next_request_at}
 use Rattle.forwarded_requests.proofs.ReadHeads.{read_tells}
 
 -- where it stands
@@ -110,7 +93,8 @@ module _ (g : Setup) (heads : g.heads ≡ the_heads) where
   enters_next e h l host is = stands l _ (enter_framed l.finished (link_of l.server) g e (link_of l.server) h host is)
 
   -- n bytes of a side were read
-  pub reads_framed : (l : TraceState) (side : Side) (n : ℕ) (p : Place) → FramedPlace l.finished (link_of l.server) p → FramedNext (reads_next l side n p)
+  pub reads_framed : (l : TraceState) (side : Side) (n : ℕ) (p : Place) → FramedPlace l.finished (link_of l.server) p
+      → FramedNext (reads_next l side n p)
   reads_framed l Client n p is = record { phase = is.phase; host = is.host }
   reads_framed l Server n p is =
       record { phase = subst (λ k. InPhase l.finished k p.phase (http_of p.host)) (sym (same_link n l.server)) is.phase; host = is.host }
@@ -122,14 +106,16 @@ module _ (g : Setup) (heads : g.heads ≡ the_heads) where
       → FramedNext (ended_next g e b bs l o)
   ended_next_framed e b bs l (Stops path call st) host is = tt
   ended_next_framed e b bs l (Ends code st) host is =
-      let p = ended_framed g e l.finished (link_of l.server) b bs (uncaught_of code) st.host host is in record { phase = p.phase; host = p.host }
+      let p = ended_framed g e l.finished (link_of l.server) b bs (uncaught_of code) st.host host is in
+      record { phase = p.phase; host = p.host }
 
   act_framed : (e : EventName) (b : Handler) (bs : List Handler) (n : ℕ) (l : TraceState) (a : Option Act) (end : Next) → StaysFramed l
       → Runs e l.finished (link_of l.server) (http_of l.host) → FramedNext end → FramedNext (act_next e b bs n l a end)
   act_framed e b bs n l None end host is ends = ends
   act_framed e b bs n l (Some a) end host is ends = record { phase = is; host = host }
 
-  pub bodies_framed : (e : EventName) (bodies : Bodies) (l : TraceState) → StaysFramed l → Runs e l.finished (link_of l.server) (http_of l.host)
+  pub bodies_framed : (e : EventName) (bodies : Bodies) (l : TraceState) → StaysFramed l
+      → Runs e l.finished (link_of l.server) (http_of l.host)
       → FramedNext (bodies_next g e bodies l)
   bodies_framed e (Gated b bs) l host is = record { phase = is; host = host }
   bodies_framed e (Running b bs n) l host is =
@@ -137,21 +123,26 @@ module _ (g : Setup) (heads : g.heads ≡ the_heads) where
       let k = body_kept g b l in
       let t = http_of (state_after o).host in
       act_framed e b bs n l (slice_get (state_after o).acts n) (ended_next g e b bs l o) host is
-      (ended_next_framed e b bs l o (framed_kept (http_of l.host) t k host) (runs_kept e l.finished (link_of l.server) (http_of l.host) t k is))
+      (ended_next_framed e b bs l o (framed_kept (http_of l.host) t k host)
+      (runs_kept e l.finished (link_of l.server) (http_of l.host) t k is))
   bodies_framed e (Failing kind line bs) l host is =
       let p = fault_framed g e l.finished (link_of l.server) kind bs l.host host is in record { phase = p.phase; host = p.host }
 
   -- ---- a head is read
 
-  begun_framed : (l : TraceState) (n : ℕ) (r : Request) → g.heads.request (take n l.client.unread) ≡ Ok r → Framed (request_begun r (http_of l.host))
+  begun_framed : (l : TraceState) (n : ℕ) (r : Request) → g.heads.request (take n l.client.unread) ≡ Ok r
+      → Framed (request_begun r (http_of l.host))
   begun_framed l n r read =
-      request_framed r (http_of l.host) (read_tells (take n l.client.unread) r (sym (ap (λ (x : Heads). x.request (take n l.client.unread)) heads) ∙ read))
+      request_framed r (http_of l.host)
+      (read_tells (take n l.client.unread) r (sym (ap (λ (x : Heads). x.request (take n l.client.unread)) heads) ∙ read))
 
-  asked_framed : (l : TraceState) (n : ℕ) (r : Result Request HttpFault) → g.heads.request (take n l.client.unread) ≡ r → StaysFramed l → FramedNext (request_next g l n r)
+  asked_framed : (l : TraceState) (n : ℕ) (r : Result Request HttpFault) → g.heads.request (take n l.client.unread) ≡ r → StaysFramed l
+      → FramedNext (request_next g l n r)
   asked_framed l n (Err f) read host = refused_next l Client f host
   asked_framed l n (Ok r) read host =
       reads_framed l Client n _
-      (enter_framed l.finished (link_of l.server) g HttpRequest (link_of l.server) (request_host r l.host) (λ e. begun_framed l n r read) refl)
+      (enter_framed l.finished (link_of l.server) g HttpRequest (link_of l.server) (request_host r l.host) (λ e. begun_framed l n r read)
+      refl)
 
   pub head_framed : (l : TraceState) (p : HeadPart) → StaysFramed l → FramedNext (head_next g l p)
   head_framed l (HeadOf n) host = asked_framed l n (g.heads.request (take n l.client.unread)) refl host
@@ -171,7 +162,8 @@ module _ (g : Setup) (heads : g.heads ≡ the_heads) where
       not_none : Some r ≡ None → ⊥
       not_none e = absurd (cc)
 
-  status_framed : (l : TraceState) (n : ℕ) (r : Response) (switches interim : Bool) → StaysFramed l → FramedNext (status_next g l n r switches interim)
+  status_framed : (l : TraceState) (n : ℕ) (r : Response) (switches interim : Bool) → StaysFramed l
+      → FramedNext (status_next g l n r switches interim)
   status_framed l n r true interim host = finish_next (HttpReason fault.Switching) l host
   status_framed l n r false true host = interim_framed l n r (asked_version (http_of l.host).came) host
   status_framed l n r false false host = reads_framed l Server n _ (final_framed l n r)
@@ -188,7 +180,8 @@ module _ (g : Setup) (heads : g.heads ≡ the_heads) where
 
   -- ---- a message goes on
 
-  message_at : (l : TraceState) (side : Side) (finished : Bool) (link : Link) → InPhase finished link (behind_message side l.host) (http_of l.host)
+  message_at : (l : TraceState) (side : Side) (finished : Bool) (link : Link)
+      → InPhase finished link (behind_message side l.host) (http_of l.host)
   message_at l Client finished link = tt
   message_at l Server finished link = by_test (is_spent_link l.host)
     where
@@ -208,14 +201,16 @@ module _ (g : Setup) (heads : g.heads ≡ the_heads) where
   moves_framed l Client n bytes p host is = record { phase = is (link_of l.server); host = host }
   moves_framed l Server n bytes p host is = record { phase = is (link_of (read_server n l.server)); host = host }
 
-  body_end_framed : (l : TraceState) (side : Side) (n : ℕ) (told standing : Bool) → StaysFramed l → FramedNext (body_end_next l side n told standing)
+  body_end_framed : (l : TraceState) (side : Side) (n : ℕ) (told standing : Bool) → StaysFramed l
+      → FramedNext (body_end_next l side n told standing)
   body_end_framed l side n true standing host =
       reads_framed l side n (place (behind_message side l.host) l.host)
       (record { phase = message_at l side l.finished (link_of l.server); host = host })
   body_end_framed l side n false standing host =
       moves_framed l side n (last_line standing) (behind_message side l.host) host (message_at l side l.finished)
 
-  pub sending_framed : (l : TraceState) (side : Side) (s : BodyState) (standing : Bool) (p : Part) → StaysFramed l → FramedNext (sending_next g l side s standing p)
+  pub sending_framed : (l : TraceState) (side : Side) (s : BodyState) (standing : Bool) (p : Part) → StaysFramed l
+      → FramedNext (sending_next g l side s standing p)
   sending_framed l side s standing Byte host =
       moves_framed l side 1 (take 1 (stream_of side l).unread) (Forwarding side (after_byte s) standing) host (λ k. tt)
   sending_framed l side s standing (Chunk n size) host =

@@ -16,7 +16,8 @@ pub mod PhasesFramed
 pub mod PlacesFramed
 pub mod ReadBodies
 pub mod ReadHeads
-mod Rows
+pub mod ReceivedHeads
+pub mod Rows
 pub mod Sent
 pub mod SentParts
 pub mod Whole

@@ -93,7 +93,8 @@ still_left : (h : Http) (left : ℕ) → h.reader ≡ state.Left left → HasSho
     → left + length (gathered_text h.gathered h.payload) < 10 ^ 18
 still_left h left is short = subst (λ s. left_in s + length (gathered_text h.gathered h.payload) < 10 ^ 18) is short
 
-module _ (h : Http) (head : RequestHead) (short : HasShortLength h) (codings : are_trimmed (named coding head.fields) ≡ true) (sizes : are_trimmed (named size head.fields) ≡ true) where
+module _ (h : Http) (head : RequestHead) (short : HasShortLength h)
+    (codings : are_trimmed (named coding head.fields) ≡ true) (sizes : are_trimmed (named size head.fields) ≡ true) where
   out_by : (b : Body) (stands : Stands b h) → Said (named coding head.fields) (named size head.fields) head.version b
       → fields_body head.version (out (changed_length b h.gathered h.payload) head.fields) body.None ≡ Ok (body_out b h (left_of b h stands))
   out_by body.None stands (Nothing uncoded unsized) =

@@ -1,5 +1,5 @@
 -- Where an event leads a request that is on its way isn't answered yet, and goes by what its head says.
-use Rattle.std.proofs.Common.{◌≡◌, refl, sym, ap, subst, ◌∙◌, ℕ, zero, suc, List, [], ◌∷◌, Bool, true, false, Option, Some, None}
+use Rattle.std.proofs.Common.{◌≡◌, refl, ℕ, zero, suc, List, [], ◌∷◌, Bool, true, false, Option, Some, None}
 use Rattle.std.specs.Prelude.{if◌then◌else◌}
 use Rattle.px_bytes.specs.declared.addr.Side.TheVariants.{Client, Server}
 use Rattle.px_bytes.specs.declared.fault.FaultKind.{FaultKind}
@@ -14,18 +14,17 @@ use Rattle.irule_net.specs.declared.state.Ending.{Ending}
 use Rattle.irule_net.specs.declared.state.Ending.TheVariants.{Rejects, Closes}
 use Rattle.irule_net.specs.declared.state.Selected.{Selected}
 use Rattle.irule_http.specs.State.{expects_by}
-use Rattle.irule_http.specs.declared.state.Http.{Http}
 use Rattle.conn_trace.specs.Host.{HostState, http_of, speaks_http}
 use Rattle.conn_trace.specs.Http.{client_goes_on, wanted_more}
 use Rattle.conn_trace.specs.Item.{Closed, Tcl, Unselected}
-use Rattle.conn_trace.specs.Places.{Place, place, begun, bodies_left, closed_client, closed_server, closed, connecting, behind_data, goes_on}
+use Rattle.conn_trace.specs.Places.{place, begun, bodies_left, closed_client, closed_server, closed, connecting, behind_data, goes_on}
 use Rattle.conn_trace.specs.Places.{unless_ended, after_server, after_event, entered, enter, next_body, after_fault, after_body, is_closing}
 use Rattle.conn_trace.specs.Routing.{behind_accept, behind_accepted, behind_answer, behind_asked, behind_connect, behind_connected, behind_failed}
 use Rattle.conn_trace.specs.Routing.{behind_request, behind_request_data, behind_response, behind_told, gathering, is_left}
 use Rattle.conn_trace.specs.Routing.{next_request, routed}
 use Rattle.conn_trace.specs.Setup.{Handler, Setup}
-use Rattle.conn_trace.specs.State.{Phase, InEvent, AtHead, Gathering, AtReuse, GivingUp, Retiring, Heading, Forwarding, Dropping, AtResponse}
-use Rattle.conn_trace.specs.State.{Choosing, Collecting, Finishing, Draining, Behind, BeforeSelect, BehindMessage}
+use Rattle.conn_trace.specs.State.{Phase, AtHead, AtReuse, GivingUp, Heading}
+use Rattle.conn_trace.specs.State.{Choosing, Finishing, Draining, BeforeSelect, BehindMessage}
 use Rattle.conn_trace.specs.State.{Link, Absent, Asked, Up, Left, GivenUp}
 use Rattle.forwarded_requests.proofs.GatherFramed.{gather_begins}
 use Rattle.forwarded_requests.proofs.HostFramed.{Awaits, UnlessAnswered, begun_kept, framed_kept}
@@ -188,7 +187,8 @@ module _ (finished : Bool) (link : Link) where
       enters = enters_kept e (http_of h) (http_of (begun e to h)) (begun_kept e to h) is
 
       by_bodies : (bs : List Handler) → FramedPlace finished link (entered g e to bs (begun e to h))
-      by_bodies [] = after_framed g e false to (begun e to h) (begun_framed e to h framed) (enters_runs e false to (http_of (begun e to h)) enters)
+      by_bodies [] =
+          after_framed g e false to (begun e to h) (begun_framed e to h framed) (enters_runs e false to (http_of (begun e to h)) enters)
       by_bodies (b ∷ bs) = record { phase = enters_runs e finished link (http_of (begun e to h)) enters; host = begun_framed e to h framed }
 
 both_framed : (g : Setup) (link to : Link) (h : HostState) → UnlessAnswered (http_of h) → FramedPlace true link (closed_server g to h)

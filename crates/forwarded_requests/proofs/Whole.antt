@@ -177,7 +177,9 @@ module _ (h : Http) (head : RequestHead) (is : IsFramed h head) where
         subst (λ t. IsBody (beginning (body_out h.body h left)) (t ++ out) false (gathered_text h.gathered h.payload ++ bytes) rest)
         (sym (part_is h h.gathered (is_chunked h.body))) (body_by h.body is.stands)
 
-    pub request_is : HasShortLength h → IsRequest (written_request (request_out h head) ++ (payload_part h ++ out)) (bare_request (request_out h head)) (gathered_text h.gathered h.payload ++ bytes) rest
+    pub request_is : HasShortLength h
+        → IsRequest (written_request (request_out h head) ++ (payload_part h ++ out)) (bare_request (request_out h head))
+        (gathered_text h.gathered h.payload ++ bytes) rest
     unfolding left
     request_is short =
         let r = request_out h head in
