@@ -1,5 +1,5 @@
 -- Worked rows, by computation: requests as they stand at the front of a stream, and as they go on (RFC 9112, 2 to 7).
-use Rattle.std.proofs.Common.{◌≡◌, refl, ap, subst, ◌∙◌, ℕ, List, [], ◌∷◌, ◌++◌, append-nil, Bool, true, false, Some, None, Ok, codes}
+use Rattle.std.proofs.Common.{◌≡◌, refl, ap, subst, ◌∙◌, ℕ, List, [], ◌∷◌, ◌++◌, append-nil, Bool, true, false, Some, Ok, codes}
 use Rattle.std.specs.Str.{chars, is_utf8}
 use Rattle.httparse.specs.Grammar.{is_token_byte, print_request, trim_ows}
 use Rattle.memchr.specs.Find.{first_of, matches_from}
