@@ -1,5 +1,5 @@
 -- The same where bytes of a body are gathered, a server is chosen or given up, and bytes are passed on.
-use Rattle.std.proofs.Common.{Bool, List, None, Ok, Option, Some, [], ap, false, refl, subst, suc, sym, take, true, true≢false, zero, ℕ, ◌∙◌, ◌∷◌, ◌≡◌}
+use Rattle.std.proofs.Common.{Bool, List, None, Option, Some, [], ap, false, refl, subst, suc, sym, take, true, true≢false, zero, ℕ, ◌∙◌, ◌∷◌, ◌≡◌}
 use Rattle.std.specs.Prelude.{is_some}
 use Rattle.px_bytes.specs.declared.addr.Addr.{Addr}
 use Rattle.px_bytes.specs.declared.addr.Side.{Side}

@@ -17,7 +17,7 @@ use Rattle.conn_trace.specs.Fronts.{after_byte, in_chunk, is_at_end, one_less}
 use Rattle.conn_trace.specs.Http.{gathered_so, request_begun, wanted_more, with_gathered, with_whole}
 use Rattle.conn_trace.proofs.PendingFits.{less_one}
 use Rattle.forwarded_requests.specs.Forwarded.{ChunksStand, InChunks, Stands}
-use Rattle.forwarded_requests.proofs.Framings.{Said, Length, said}
+use Rattle.forwarded_requests.proofs.Framings.{Said, said}
 use Rattle.forwarded_requests.proofs.HostFramed.{Awaits, Framed}
 use Rattle.forwarded_requests.proofs.LineSizes.{LinePart, PiecePart, first_lines, left_pieces, line_sized, next_lines}
 use Rattle.forwarded_requests.proofs.PassedFields.{coding, size}

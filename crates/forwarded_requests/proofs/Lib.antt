@@ -17,7 +17,7 @@ pub mod PlacesFramed
 pub mod ReadBodies
 pub mod ReadHeads
 pub mod ReceivedHeads
-pub mod Rows
+mod Rows
 pub mod Sent
 pub mod SentParts
 pub mod Whole
