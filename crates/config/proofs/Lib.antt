@@ -1,3 +1,4 @@
+pub mod DocumentTypes
 mod Documents
 mod FirstTold
 mod Firsts

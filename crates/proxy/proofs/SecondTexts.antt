@@ -9,6 +9,7 @@ use Rattle.px_bytes.specs.declared.memory.Memory as want
 use Rattle.px_outside.specs.Outside.{Rose}
 use Rattle.px_outside.specs.declared.failed.Failed.{Failed}
 use Rattle.px_outside.specs.declared.failed.Failed.TheVariants as failed
+use Rattle.tmsh_laws.proofs.RoundTrip.{printed_back}
 use Rattle.tmsh_text.specs.Imported.{Imports, Refuses as RefusesText}
 use Rattle.tmsh_text.specs.Printed.{Prints}
 use Rattle.tmsh_text.specs.declared.fault.PrintFault.{PrintFault}
@@ -55,7 +56,7 @@ module _ (old new : Option (List ℕ)) (before now : ℕ) where
     file_unread rn name why rose same end is = inl (record { why = why; rose = rose; nothing = same; end_is = is })
 
     pub config_exported : (rn : ℕ) (name : List ℕ) (C : LoadedConfig) → Loads told name C → (end : End) → ExportsConfig C old new before now end → ExportsFile name told old new rb rn before now end
-    config_exported rn name C loads end t = inr (record { C = C; loads = loads; exports = t })
+    config_exported rn name C loads end t = inr (record { C = C; loads = loads; exports = t; read_back = printed_back told loads.top C loads.faultless loads.configures })
 
     pub config_refused : (rn : ℕ) (name : List ℕ) (why : ConfigError) → Answers told rb rn name (Err why) → (end : End) → Refuses why old new before now end → ExportsFile name told old new rb rn before now end
     config_refused rn name why answers end t = inl (record { why = why; answers = answers; refuses = t })

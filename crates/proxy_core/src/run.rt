@@ -30,7 +30,14 @@ impl Core {
         let number = self.live[at].number;
         let turn = self.live[at].run::<S, L>(self.alloc, &setup, steps, notes);
         note_sleep(number, self.moment, &turn, notes);
-        if put_behind(&mut self.live, &mut self.queue, at, number, self.moment, turn) {
+        if put_behind(
+            &mut self.live,
+            &mut self.queue,
+            at,
+            number,
+            self.moment,
+            turn,
+        ) {
             drop(self.live.remove(at));
         }
     }

@@ -15,7 +15,7 @@ use Rattle.serve_loop.proofs.server.Server.round.Goals as goal
 
 pub returns-clause-turned : goal.returns-clause-turned
 returns-clause-turned g c =
-    let face = g.C.Core.face in
+    let face = g.C.EventCore.face in
     let waited = c.in_ok-wait_for_ready.ensures.waited in
     let r : Round = record {
       now = c.args.now;
@@ -81,12 +81,12 @@ returns-in_err-each-3-clause-fallen g c =
     at_fault _ c.from_residual-in_err-each-3.result c.in_err-each-3.field-0.0 c.from_residual-in_err-each-3.ensures.1
     (fell_asking c.in_ok-wait_for_ready.ensures.waited (broke_after_all work.Listener _ _ c.in_ok-each.ensures.part
     (broke_after_all work.Link _ _ c.in_ok-each-2.ensures.part
-    (broke_after (ran_goes g.C.Core.face c.each-2.new.self.conns 2048 _ _ _) c.in_ok-run_pairs.ensures.part c.in_err-each-3.ensures.broke))))
+    (broke_after (ran_goes g.C.EventCore.face c.each-2.new.self.conns 2048 _ _ _) c.in_ok-run_pairs.ensures.part c.in_err-each-3.ensures.broke))))
 
 pub returns-in_err-add_all-clause-fallen : goal.returns-in_err-add_all-clause-fallen
 returns-in_err-add_all-clause-fallen g c =
     at_fault _ c.from_residual-in_err-add_all.result OutOfMemory c.from_residual-in_err-add_all.ensures.1
     (fell_asking c.in_ok-wait_for_ready.ensures.waited (broke_after_all work.Listener _ _ c.in_ok-each.ensures.part
     (broke_after_all work.Link _ _ c.in_ok-each-2.ensures.part
-    (broke_after (ran_goes g.C.Core.face c.each-2.new.self.conns 2048 _ _ _) c.in_ok-run_pairs.ensures.part
+    (broke_after (ran_goes g.C.EventCore.face c.each-2.new.self.conns 2048 _ _ _) c.in_ok-run_pairs.ensures.part
     (broke_after_all work.Writer _ _ c.in_ok-each-3.ensures.part (broke_nothing AreAsks true c.each-3.new.self c.each-3.new.net tt))))))

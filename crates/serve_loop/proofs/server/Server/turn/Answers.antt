@@ -45,7 +45,7 @@ returns-clause-fell g c =
     let begun : Journal = record j { recording = c.keeps-self.result } in
     rw c.turn_end.ensures (IfErr-weaker (turn_end c.round-done.result c.flush-written.result) _ _
     (λ why turn. record { now = c.now-now.result; asked = c.now-now.ensures.gave; turn = turn })
-    (fell_by g.C.Core.face g.N.Net.did g.N.Net.gave c.now-now.result old.slots old.links
+    (fell_by g.C.EventCore.face g.N.Net.did g.N.Net.gave c.now-now.result old.slots old.links
     old.serving begun c.round-done.new.self.serving c.flush-written.new.self c.args.net.now c.round-done.new.net before after
     (λ none. none) c.keeps-self.ensures.untold
     (g.N.Net.faults c.args.net.now) (g.N.Net.faults c.round-done.new.net)

@@ -9,7 +9,7 @@ pub returns-clause-waited : goal.returns-clause-waited
 returns-clause-waited g c =
     let is_until = rw (c.as_slice.ensures, c.as_slice-2.ensures) at c.until-until.ensures in record {
       until = c.until-until.result;
-      part = part_next (λ (conns : ℕ). WaitsFor g.C.Core.face conns c.args.slots.now c.args.links.now c.until-until.result c.wait.new.listed)
+      part = part_next (λ (conns : ℕ). WaitsFor g.C.EventCore.face conns c.args.slots.now c.args.links.now c.until-until.result c.wait.new.listed)
           c.in_ok-tick.ensures.part (part_at (λ steps waits. record { is_until = is_until; waits = waits }) c.in_ok-wait.ensures.part);
     }
 
