@@ -4,9 +4,7 @@ use Rattle.core_events.specs.Kinds.{kind_of}
 use Rattle.core_events.specs.declared.event_kind.EventKind.{EventKind}
 use Rattle.core_events.specs.declared.event_kind.EventKind.TheVariants.{Accepts, Comes, Ticks, Turns, Runs, Marks}
 use Rattle.core_events.specs.declared.note.Note.{Note}
-use Rattle.session_table.proofs.FewRows.{few_left}
-use Rattle.session_table.specs.Rows.{is_live}
-use Rattle.shared_store.proofs.FewRows.{rows_stay_few}
+use Rattle.shared_store.proofs.FewRows.{left_few, rows_stay_few}
 use Rattle.shared_store.specs.Calls.{live_reply}
 use Rattle.shared_store.specs.Laws.{FewRows}
 use Rattle.shared_store.specs.Store.{StoreState}
@@ -21,7 +19,7 @@ answered_few limit (e ∷ es) store k = answered_few limit es (live_reply store 
 
 few_on : (limit : ℕ) (v : EventKind) (group : List Note) (store : StoreState) → FewRows limit store.table → FewRows limit (store_after v group store).table
 few_on limit Turns group store k = answered_few limit (entries_in group) store k
-few_on limit (Ticks moment) group store k = record { same = k.same; few = (let less = few_left (is_live moment) store.table.rows in let few = k.few in omega (arith, less, few)) }
+few_on limit (Ticks moment) group store k = left_few limit moment store k
 few_on limit (Marks pool member up) group store k = k
 few_on limit (Accepts c vs from) group store k = k
 few_on limit (Comes c input) group store k = k

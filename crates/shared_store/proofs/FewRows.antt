@@ -8,11 +8,12 @@ use Rattle.pools.specs.Pools.{PoolState}
 use Rattle.pools.specs.declared.member.Wanted.{Wanted}
 use Rattle.pools.specs.declared.member.Wanted.TheVariants.{Any, Wish, Only}
 use Rattle.session_table.proofs.FewRows as tables
+use Rattle.session_table.specs.Rows.{is_live}
 use Rattle.shared_store.specs.Calls.{by_record, call_of, keeps_selected, live_reply, reply_by, select, select_any, select_by, selected_addr, up_member, wanted_of}
 use Rattle.shared_store.specs.Calls as calls
 use Rattle.shared_store.specs.Laws.{FewRows, RowsStayFew}
 use Rattle.shared_store.specs.Sources.{source_of}
-use Rattle.shared_store.specs.Store.{StoreState, pool_of}
+use Rattle.shared_store.specs.Store.{StoreState, at_moment, pool_of}
 use Rattle.shared_store.specs.declared.source.Source.{Source}
 use Rattle.shared_store.specs.declared.words.Call.{Call}
 use Rattle.shared_store.specs.declared.words.Call.TheVariants as call
@@ -83,3 +84,7 @@ module _ (limit moment : ℕ) where
 
 pub rows_stay_few : RowsStayFew
 rows_stay_few limit store moment call k = call_few limit moment call store k
+
+-- nor does what runs out
+pub left_few : (limit moment : ℕ) (store : StoreState) → FewRows limit store.table → FewRows limit (at_moment moment store).table
+left_few limit moment store k = record { same = k.same; few = (let less = tables.few_left (is_live moment) store.table.rows in let few = k.few in omega (arith, less, few)) }
