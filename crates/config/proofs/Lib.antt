@@ -13,5 +13,6 @@ mod Migrating
 mod MisplacedWords
 mod OneReading
 mod Readings
+mod RowsAreTexts
 mod RulesInTurn
 mod WorkedRows

@@ -3,6 +3,7 @@ use Rattle.std.proofs.Common.{◌≡◌, ℕ, ◌≤◌, List, Option, Result, O
 use Rattle.std.specs.Prelude.{IfOk}
 use Rattle.config.specs.Loading.{IsContents}
 use Rattle.config.specs.Outcomes.{Answers}
+use Rattle.config.specs.TextRows.{AllAreTexts}
 use Rattle.config.specs.declared.fault.ConfigError.{ConfigError}
 use Rattle.config.specs.declared.reader.LoadedConfig.{LoadedConfig}
 use Rattle.px_bytes.specs.declared.memory.Memory as want
@@ -55,8 +56,8 @@ module _ (old new : Option (List ℕ)) (before now : ℕ) where
     pub file_unread : (rn : ℕ) (name : List ℕ) (why : Failed) → (why ≡ failed.Failed → Rose rb rn) → new ≡ old → (end : End) → end ≡ end_of_read why → ImportsFile name told old new rb rn before now end
     file_unread rn name why rose same end is = inl (record { why = why; rose = rose; nothing = same; end_is = is })
 
-    pub config_exported : (rn : ℕ) (name : List ℕ) (C : LoadedConfig) → Loads told name C → (end : End) → ExportsConfig C old new before now end → ExportsFile name told old new rb rn before now end
-    config_exported rn name C loads end t = inr (record { C = C; loads = loads; exports = t; read_back = printed_back told loads.top C loads.faultless loads.configures })
+    pub config_exported : (rn : ℕ) (name : List ℕ) (C : LoadedConfig) → Loads told name C → AllAreTexts C.settings.groups → (end : End) → ExportsConfig C old new before now end → ExportsFile name told old new rb rn before now end
+    config_exported rn name C loads texts end t = inr (record { C = C; loads = loads; exports = t; read_back = λ printable. printed_back told loads.top C loads.faultless loads.configures texts printable })
 
     pub config_refused : (rn : ℕ) (name : List ℕ) (why : ConfigError) → Answers told rb rn name (Err why) → (end : End) → Refuses why old new before now end → ExportsFile name told old new rb rn before now end
     config_refused rn name why answers end t = inl (record { why = why; answers = answers; refuses = t })

@@ -8,7 +8,7 @@ use Rattle.config.specs.declared.reader.LoadedConfig.{LoadedConfig}
 use Rattle.px_outside.specs.Outside.{Rose}
 use Rattle.px_outside.specs.declared.failed.Failed.{Failed}
 use Rattle.px_outside.specs.declared.failed.Failed.TheVariants as failed
-use Rattle.tmsh_laws.specs.ReadBack.{AllAreTexts, IsReadBack}
+use Rattle.tmsh_laws.specs.ReadBack.{IsReadBack}
 use Rattle.tmsh_text.specs.Imported.{Imports, Refuses}
 use Rattle.tmsh_text.specs.Printed.{IsPrintable, Prints, printed}
 use Rattle.tmsh_text.specs.declared.fault.PrintFault.{PrintFault}
@@ -111,14 +111,13 @@ pub record ExportsNone (told : List ℕ → Option (List ℕ)) (name : List ℕ)
   pub answers : Answers told reads_before reads_now name (Err why)
   pub refuses : RefusesConfig why old new before now end
 
--- It loads. What is printed of it is read back as the same configuration, for data groups whose keys
--- and values are UTF-8.
+-- it loads, and what is printed of it is read back as the same configuration
 pub record ExportsLoaded (told : List ℕ → Option (List ℕ)) (name : List ℕ) (old new : Option (List ℕ))
     (before now : ℕ) (end : End) : Type 0 where
   pub C : LoadedConfig
   pub loads : Loads told name C
   pub exports : ExportsConfig C old new before now end
-  pub read_back : AllAreTexts C.settings.groups → IsPrintable C → IsReadBack (printed C) C
+  pub read_back : IsPrintable C → IsReadBack (printed C) C
 
 abbrev pub ExportsFile : List ℕ → (List ℕ → Option (List ℕ)) → Option (List ℕ) → Option (List ℕ) → ℕ
     → ℕ → ℕ → ℕ → End → Type 0

@@ -6,6 +6,7 @@ use Rattle.config.specs.Keys as key
 use Rattle.config.specs.Loading.{AreLoaded}
 use Rattle.config.specs.Outcomes.{Configures, misplaced_of}
 use Rattle.config.specs.Settings.{settings_of}
+use Rattle.config.specs.TextRows.{AllAreTexts, AreTexts}
 use Rattle.config.specs.declared.config.GroupSettings.{GroupSettings}
 use Rattle.config.specs.declared.reader.LoadedConfig.{LoadedConfig}
 use Rattle.config.specs.declared.rule_text.LoadedRule.{LoadedRule}
@@ -17,7 +18,7 @@ use Rattle.tmsh_laws.proofs.Printable.{printed_utf8}
 use Rattle.tmsh_laws.proofs.Readable.{config_reads}
 use Rattle.tmsh_laws.proofs.Tables.{config_members}
 use Rattle.tmsh_laws.proofs.Whole.{means}
-use Rattle.tmsh_laws.specs.ReadBack.{AllAreTexts, AreTexts, IsReadBack}
+use Rattle.tmsh_laws.specs.ReadBack.{IsReadBack}
 use Rattle.tmsh_text.specs.Printed.{IsPrintable, printed}
 
 rows_read : (rows : List Row) → AreTexts rows → Each RowReads rows

@@ -1,14 +1,12 @@
 -- The second text of a configuration is read back as the same configuration, whose rules have their
 -- texts in the document.
-use Rattle.std.specs.Prelude.{◌≡◌, ℕ, true, List, [], ◌∷◌, map, Option, None}
-use Rattle.std.specs.Str.{is_utf8}
+use Rattle.std.specs.Prelude.{◌≡◌, ℕ, List, map, Option, None}
 use Rattle.toml.specs.Data.{Members}
 use Rattle.config.specs.Documents.{document_fault}
 use Rattle.config.specs.Outcomes.{Configures}
-use Rattle.config.specs.declared.config.GroupSettings.{GroupSettings}
+use Rattle.config.specs.TextRows.{AllAreTexts}
 use Rattle.config.specs.declared.reader.LoadedConfig.{LoadedConfig}
 use Rattle.config.specs.declared.rule_text.LoadedRule.{LoadedRule}
-use Rattle.data_groups.specs.Groups.{Row}
 use Rattle.tmsh_read.specs.Reading.{Means}
 use Rattle.tmsh_text.specs.Printed.{IsPrintable, printed}
 
@@ -30,20 +28,8 @@ pub record IsReadBack (text : List ℕ) (C : LoadedConfig) : Type 0 where
   pub faultless : document_fault table ≡ None
   pub configures : (told : List ℕ → Option (List ℕ)) → Configures told table (in_one_text C)
 
--- the keys and values of the data groups are UTF-8
-pub record IsText (row : Row) : Type 0 where
-  pub key : is_utf8 row.0 ≡ true
-  pub value : is_utf8 row.1 ≡ true
-
-abbrev pub AreTexts : List Row → Type 0
-AreTexts [] = Unit {0}
-AreTexts (row ∷ rows) = IsText row × AreTexts rows
-
-abbrev pub AllAreTexts : List GroupSettings → Type 0
-AllAreTexts [] = Unit {0}
-AllAreTexts (g ∷ gs) = AreTexts g.rows × AllAreTexts gs
-
--- of each document without faults, unless a rule's text can't stand in a text
+-- of each document without faults, unless a rule's text can't stand in a text; the keys and values of
+-- data groups are UTF-8, as those of each document that was read
 abbrev pub PrintedIsReadBack : Type 0
 PrintedIsReadBack = (told : List ℕ → Option (List ℕ)) (top : Members) (C : LoadedConfig)
     → document_fault top ≡ None → Configures told top C → AllAreTexts C.settings.groups

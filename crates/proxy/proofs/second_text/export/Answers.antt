@@ -11,7 +11,8 @@ returns-in-Ok g c =
     let new = g.K.Sink.written c.export_config.new.out in
     let b = g.K.Sink.faults c.args.out.now in
     let n = g.K.Sink.faults c.export_config.new.out in
-    config_exported old new b n told rb rn c.args.name.now c.in-Ok.loaded (loads told rb rn c.args.name.now c.in-Ok.loaded c.in-Ok.ensures.answer) c.export_config.result c.export_config.ensures
+    config_exported old new b n told rb rn c.args.name.now c.in-Ok.loaded (loads told rb rn c.args.name.now c.in-Ok.loaded c.in-Ok.ensures.answer) c.in-Ok.ensures.texts
+    c.export_config.result c.export_config.ensures
 
 pub returns-in-Err : goal.returns-in-Err
 returns-in-Err g c =
