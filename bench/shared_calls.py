@@ -3,9 +3,10 @@
 
     bench/shared_calls.py PROGRAM [SEED [COUNT]]         PROGRAM is a built crates/ciravogu/out/ciravogu
 
-COUNT schedules (5,000) of three connections, each of which makes some random calls of `table` and `clock` and then asks for a
-member by its client's address, with Runs, Turns and Ticks in between at moments about the deadlines of rows and records. The
-model is the table of bench/table.py, records by address, a ring and a queue; the whole report is compared.
+COUNT schedules (5,000) of three connections, each of which makes some random calls of `table`, `clock` and `after` and then asks
+for a member by its client's address, with Runs, Turns and Ticks in between at moments about the deadlines of rows, records and
+sleeps. The model is the table of bench/table.py, records by address, a ring, a queue and those that sleep, which wake in the order
+in which they fell asleep; the whole report is compared.
 """
 import random
 import subprocess
@@ -45,6 +46,11 @@ def written(words):
     return " ".join(word or "{}" for word in words)
 
 
+def milliseconds(word):
+    """A whole number as Tcl 8.4 has it: decimal, `0x1f` or octal `017`."""
+    return int(word, 16 if word.startswith("0x") else 8 if word.startswith("0") else 10)
+
+
 class Checks(Table):
     """A table that tells the faults of words alone."""
 
@@ -73,6 +79,8 @@ class Store:
             return f"fault {number} {text}", bytes.fromhex(text).decode()
         if words[0] == "clock":
             text = str(now // 1000)
+        elif words[0] == "after":
+            return "ok -", ""
         else:
             address = words[3]
             if address in self.records:
@@ -124,7 +132,7 @@ class Run:
     """A schedule as it is made, with its report."""
 
     def __init__(self, dice):
-        self.dice, self.now, self.ring, self.queue = dice, 0, [], []
+        self.dice, self.now, self.ring, self.queue, self.asleep = dice, 0, [], [], []
         self.lines, self.report, self.store = [], [], Store(dice.choice([1, 2, 5]))
         addresses = ["10.0.0.8", "10.0.0.9"]
         self.given = [[self.call() for _ in range(dice.randrange(1, 6))] for _ in range(3)]
@@ -132,7 +140,13 @@ class Run:
         self.accepted = []
 
     def call(self):
-        return ["clock", "seconds"] if self.dice.random() < 0.05 else ["table", *words_of(self.dice)]
+        choice = self.dice.random()
+        if choice < 0.05:
+            return ["clock", "seconds"]
+        if choice < 0.25:
+            time = self.dice.choice([0, 1, 2, 499, 500, 1000, 3000])
+            return ["after", self.dice.choice([str(time), hex(time), f"0{time:o}"])]
+        return ["table", *words_of(self.dice)]
 
     def config(self):
         cases = []
@@ -153,7 +167,11 @@ class Run:
         if self.ring:
             it = self.ring.pop(0)
             self.report += it.run()
-            if it.asks:
+            if it.asks and it.asks[0] == "after" and milliseconds(it.asks[1]):
+                until = self.now + milliseconds(it.asks[1])
+                self.asleep.append((until, it))
+                self.report.append(f"> sleep {it.number} {until}")
+            elif it.asks:
                 self.queue.append(it)
 
     def turn(self):
@@ -167,18 +185,23 @@ class Run:
             self.ring.append(it)
 
     def ends(self):
-        """The moments at which rows and records end."""
+        """The moments at which rows, records and sleeps end."""
         found = []
         for _, timeout, lifetime, created, touched in self.store.table.rows.values():
             found += [] if timeout is None else [touched + 1000 * timeout]
             found += [] if lifetime is None else [created + 1000 * lifetime]
-        return found + [touched + 1000 * self.store.seconds for _, touched in self.store.records.values()]
+        found += [touched + 1000 * self.store.seconds for _, touched in self.store.records.values()]
+        return found + [until for until, _ in self.asleep]
 
     def tick(self):
         near = [end + by for end in self.ends() for by in (-1, 0, 1)] or [self.now]
-        moment = self.dice.choice([self.dice.choice(near), self.now, self.now + 1, self.now + 500])
+        self.tick_to(self.dice.choice([self.dice.choice(near), self.now, self.now + 1, self.now + 500]))
+
+    def tick_to(self, moment):
         self.now = max(self.now, moment)
         self.store.tick(self.now)
+        self.queue += [it for until, it in self.asleep if until <= self.now]
+        self.asleep = [(until, it) for until, it in self.asleep if until > self.now]
         self.lines.append(f"tick {self.now}")
 
     def refuse(self):
@@ -208,13 +231,15 @@ class Run:
                 self.run()
             else:
                 self.turn()
-        while self.ring or self.queue or any(it.phase == "connects" for it in self.accepted):
+        while self.ring or self.queue or self.asleep or any(it.phase == "connects" for it in self.accepted):
             if self.dice.random() < 0.1:
                 self.tick()
             if self.ring:
                 self.run()
             elif self.queue:
                 self.turn()
+            elif self.asleep:
+                self.tick_to(min(until for until, _ in self.asleep))
             else:
                 self.refuse()
         self.take()

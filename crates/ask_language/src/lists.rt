@@ -3,7 +3,7 @@
 use crate::compiled::say_place;
 use px_bytes::Texts;
 use questions::Question;
-use tcl_lists::{ListFault, Places, join_list, places, split};
+use tcl_lists::{ElementPlaces, ListFault, join_list, places, split};
 
 pub fn answer(question: &mut Question<'_>, call: &str) {
     match call {
@@ -40,7 +40,7 @@ fn say_elements(question: &mut Question<'_>, elements: &Texts) {
     }
 }
 
-fn say_places(question: &mut Question<'_>, places: &Places) {
+fn say_places(question: &mut Question<'_>, places: &ElementPlaces) {
     question.say("ok");
     question.say_number(places.len() as u64);
     for place in places.as_slice() {

@@ -2,7 +2,7 @@
 
 use px_bytes::Text;
 use questions::Question;
-use tcl_words::{Command, Form, Part, Script, Span, Word};
+use tcl_words::{Form, Part, Script, ScriptCommand, Span, Word};
 
 /// Puts a script behind the answer.
 #[cycle(script)]
@@ -20,7 +20,7 @@ pub fn put_script(question: &mut Question<'_>, script: &Script) {
 }
 
 #[cycle(script)]
-fn put_command(question: &mut Question<'_>, command: &Command) {
+fn put_command(question: &mut Question<'_>, command: &ScriptCommand) {
     question.put(b"(");
     let mut first = true;
     for word in &command.words {

@@ -1,10 +1,10 @@
 // Questions, and their answers.
 
-use crate::body::Body;
+use crate::body::AskedBody;
 use crate::outcome::push_hex;
 use crate::plain::plain;
 use crate::read::{read_into, read_replies};
-use crate::stepped::{Given, stepped};
+use crate::stepped::{GivenReplies, stepped};
 use crate::suspended::run_suspended;
 use conn::Handler;
 use event_order::EventName;
@@ -26,7 +26,7 @@ const MOST_REPLIES: u32 = 200;
 
 /// What is asked of a rule's first body, or of a script.
 #[derive(Clone, Copy)]
-pub enum Question<'a> {
+pub enum MachineQuestion<'a> {
     /// With no shared call, and where all commands of the host are shared and get the empty reply.
     Case,
     /// On these replies: the calls that get one, with their paths, and its end.
@@ -38,7 +38,7 @@ pub enum Question<'a> {
 }
 
 /// Adds the answer to a question about the rule that a word writes: whether it can be asked.
-pub fn answer(alloc: Global, question: Question<'_>, word: &str, out: &mut Text) -> M<bool> {
+pub fn answer(alloc: Global, question: MachineQuestion<'_>, word: &str, out: &mut Text) -> M<bool> {
     let mut text = Text::empty(alloc);
     let answered = read_and_answer(alloc, question, word, &mut text, out);
     drop(text);
@@ -47,24 +47,29 @@ pub fn answer(alloc: Global, question: Question<'_>, word: &str, out: &mut Text)
 
 fn read_and_answer(
     alloc: Global,
-    question: Question<'_>,
+    question: MachineQuestion<'_>,
     word: &str,
     text: &mut Text,
     out: &mut Text,
 ) -> M<bool> {
-    if let Question::Script = question {
+    if let MachineQuestion::Script = question {
         text.push(b"when CLIENT_ACCEPTED {\n")?;
     }
     if !read_into(alloc, word, text)? {
         return Ok(false);
     }
-    if let Question::Script = question {
+    if let MachineQuestion::Script = question {
         text.push(b"\n}")?;
     }
     load_and_answer(alloc, question, text, out)
 }
 
-fn load_and_answer(alloc: Global, question: Question<'_>, text: &Text, out: &mut Text) -> M<bool> {
+fn load_and_answer(
+    alloc: Global,
+    question: MachineQuestion<'_>,
+    text: &Text,
+    out: &mut Text,
+) -> M<bool> {
     match load_rule(alloc, b"r", text.as_bytes()) {
         Ok(rule) => {
             let answered = rule_answer(alloc, question, &rule, text, out);
@@ -81,7 +86,7 @@ fn load_and_answer(alloc: Global, question: Question<'_>, text: &Text, out: &mut
 
 fn rule_answer(
     alloc: Global,
-    question: Question<'_>,
+    question: MachineQuestion<'_>,
     rule: &Rule,
     text: &Text,
     out: &mut Text,
@@ -90,18 +95,18 @@ fn rule_answer(
         return Ok(false);
     };
     match question {
-        Question::Case => case(alloc, own, shared, out)?,
-        Question::Replies(words) => return replies(alloc, own, words, out),
-        Question::Connection(words) => return connection(alloc, rule, own, words, out),
-        Question::Script => script(alloc, own, out)?,
+        MachineQuestion::Case => case(alloc, own, shared, out)?,
+        MachineQuestion::Replies(words) => return replies(alloc, own, words, out),
+        MachineQuestion::Connection(words) => return connection(alloc, rule, own, words, out),
+        MachineQuestion::Script => script(alloc, own, out)?,
     }
     Ok(true)
 }
 
 // The first body that runs when a client was accepted.
-fn body_of<'a>(rule: &'a Rule, text: &'a Text, all_shared: bool) -> Option<Body<'a>> {
+fn body_of<'a>(rule: &'a Rule, text: &'a Text, all_shared: bool) -> Option<AskedBody<'a>> {
     let handler = rule.handlers(EventName::ClientAccepted).get(0)?;
-    Some(Body {
+    Some(AskedBody {
         tree: &handler.body,
         procs: &rule.procs,
         all_shared,
@@ -110,8 +115,8 @@ fn body_of<'a>(rule: &'a Rule, text: &'a Text, all_shared: bool) -> Option<Body<
     })
 }
 
-fn case(alloc: Global, own: Body<'_>, shared: Body<'_>, out: &mut Text) -> M<()> {
-    let all = Given {
+fn case(alloc: Global, own: AskedBody<'_>, shared: AskedBody<'_>, out: &mut Text) -> M<()> {
+    let all = GivenReplies {
         replies: &[],
         empty: MOST_REPLIES,
     };
@@ -127,7 +132,7 @@ fn case(alloc: Global, own: Body<'_>, shared: Body<'_>, out: &mut Text) -> M<()>
 }
 
 // What a body leaves uncaught and sends, on no replies, and these last words.
-fn push_plain(alloc: Global, body: Body<'_>, last_words: &Text, out: &mut Text) -> M<()> {
+fn push_plain(alloc: Global, body: AskedBody<'_>, last_words: &Text, out: &mut Text) -> M<()> {
     let none = Replies::new(alloc);
     let plained = plain(alloc, body, &none);
     drop(none);
@@ -143,7 +148,7 @@ fn judged(is_same: bool) -> &'static [u8] {
 }
 
 // Whether a body comes to the same by steps as by the plain evaluator, on so many empty replies.
-fn are_same(alloc: Global, body: Body<'_>, count: u32) -> M<bool> {
+fn are_same(alloc: Global, body: AskedBody<'_>, count: u32) -> M<bool> {
     let mut replies = Replies::new(alloc);
     for _ in 0..count {
         replies.push(Reply::Ok(Text::empty(alloc)))?;
@@ -153,16 +158,21 @@ fn are_same(alloc: Global, body: Body<'_>, count: u32) -> M<bool> {
     same
 }
 
-fn is_same(alloc: Global, body: Body<'_>, replies: &Replies) -> M<bool> {
+fn is_same(alloc: Global, body: AskedBody<'_>, replies: &Replies) -> M<bool> {
     let plained = plain(alloc, body, replies)?;
     let same = is_same_in_slices(alloc, body, replies.as_slice(), &plained.outcome);
     drop(plained);
     same
 }
 
-fn is_same_in_slices(alloc: Global, body: Body<'_>, replies: &[Reply], outcome: &Text) -> M<bool> {
+fn is_same_in_slices(
+    alloc: Global,
+    body: AskedBody<'_>,
+    replies: &[Reply],
+    outcome: &Text,
+) -> M<bool> {
     for slice in SLICES {
-        let run = stepped(alloc, body, Given { replies, empty: 0 }, slice)?;
+        let run = stepped(alloc, body, GivenReplies { replies, empty: 0 }, slice)?;
         let is_same = run.outcome.as_bytes() == outcome.as_bytes();
         drop(run);
         if !is_same {
@@ -172,7 +182,7 @@ fn is_same_in_slices(alloc: Global, body: Body<'_>, replies: &[Reply], outcome: 
     Ok(true)
 }
 
-fn replies(alloc: Global, body: Body<'_>, words: &[&str], out: &mut Text) -> M<bool> {
+fn replies(alloc: Global, body: AskedBody<'_>, words: &[&str], out: &mut Text) -> M<bool> {
     let Some(replies) = read_replies(alloc, words)? else {
         return Ok(false);
     };
@@ -182,8 +192,8 @@ fn replies(alloc: Global, body: Body<'_>, words: &[&str], out: &mut Text) -> M<b
     Ok(true)
 }
 
-fn push_replies(alloc: Global, body: Body<'_>, replies: &Replies, out: &mut Text) -> M<()> {
-    let given = Given {
+fn push_replies(alloc: Global, body: AskedBody<'_>, replies: &Replies, out: &mut Text) -> M<()> {
+    let given = GivenReplies {
         replies: replies.as_slice(),
         empty: 0,
     };
@@ -199,7 +209,7 @@ fn push_replies(alloc: Global, body: Body<'_>, replies: &Replies, out: &mut Text
 fn connection(
     alloc: Global,
     rule: &Rule,
-    body: Body<'_>,
+    body: AskedBody<'_>,
     words: &[&str],
     out: &mut Text,
 ) -> M<bool> {
@@ -217,12 +227,12 @@ fn connection(
     Ok(true)
 }
 
-fn script(alloc: Global, body: Body<'_>, out: &mut Text) -> M<()> {
-    let body = Body {
+fn script(alloc: Global, body: AskedBody<'_>, out: &mut Text) -> M<()> {
+    let body = AskedBody {
         budget: LONG_BUDGET,
         ..body
     };
-    let none = Given {
+    let none = GivenReplies {
         replies: &[],
         empty: 0,
     };

@@ -12,7 +12,7 @@ mod run;
 mod stepped;
 mod suspended;
 
-use cases::Question;
+use cases::MachineQuestion;
 use px_bytes::{M, Text};
 use std::alloc::Global;
 use std::io::{self, BufRead, BufReader, BufWriter, ErrorKind, Write};
@@ -56,14 +56,14 @@ fn push_answer(alloc: Global, line: &str, out: &mut Text) -> M<()> {
 
 fn answer(alloc: Global, words: &[&str], out: &mut Text) -> M<bool> {
     match words {
-        ["case", rule] => cases::answer(alloc, Question::Case, rule, out),
+        ["case", rule] => cases::answer(alloc, MachineQuestion::Case, rule, out),
         ["replies", rule, replies @ ..] => {
-            cases::answer(alloc, Question::Replies(replies), rule, out)
+            cases::answer(alloc, MachineQuestion::Replies(replies), rule, out)
         }
         ["connection", rule, replies @ ..] => {
-            cases::answer(alloc, Question::Connection(replies), rule, out)
+            cases::answer(alloc, MachineQuestion::Connection(replies), rule, out)
         }
-        ["body", script] => cases::answer(alloc, Question::Script, script, out),
+        ["body", script] => cases::answer(alloc, MachineQuestion::Script, script, out),
         _ => Ok(false),
     }
 }

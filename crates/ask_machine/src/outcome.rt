@@ -1,6 +1,6 @@
 // What a body came to, added to a text.
 
-use crate::body::Body;
+use crate::body::AskedBody;
 use crate::echo::Echo;
 use plain_eval::PlainCode;
 use px_bytes::{M, TclFault, Text, Texts, print_hex};
@@ -10,7 +10,7 @@ use tcl_vars::Vars;
 
 /// How a body ends, by either evaluator.
 #[derive(Clone, Copy)]
-pub enum End<'a> {
+pub enum BodyEnd<'a> {
     Value(&'a Text),
     Return(&'a Text),
     Raised(&'a TclFault),
@@ -19,38 +19,38 @@ pub enum End<'a> {
 }
 
 /// The end that a code is.
-pub fn end_of(code: &Code) -> End<'_> {
+pub fn end_of(code: &Code) -> BodyEnd<'_> {
     match code {
-        Code::Value(value) => End::Value(value),
-        Code::Return(value) => End::Return(value),
-        Code::Raised(fault) => End::Raised(fault),
-        Code::Break => End::Break,
-        Code::Continue => End::Continue,
+        Code::Value(value) => BodyEnd::Value(value),
+        Code::Return(value) => BodyEnd::Return(value),
+        Code::Raised(fault) => BodyEnd::Raised(fault),
+        Code::Break => BodyEnd::Break,
+        Code::Continue => BodyEnd::Continue,
     }
 }
 
 /// The end that a code of the plain evaluator is.
-pub fn plain_end(code: &PlainCode) -> End<'_> {
+pub fn plain_end(code: &PlainCode) -> BodyEnd<'_> {
     match code {
-        PlainCode::Ends(value) => End::Value(value),
-        PlainCode::Return(value) => End::Return(value),
-        PlainCode::Raised(fault) => End::Raised(fault),
-        PlainCode::Break => End::Break,
-        PlainCode::Continue => End::Continue,
+        PlainCode::Ends(value) => BodyEnd::Value(value),
+        PlainCode::Return(value) => BodyEnd::Return(value),
+        PlainCode::Raised(fault) => BodyEnd::Raised(fault),
+        PlainCode::Break => BodyEnd::Break,
+        PlainCode::Continue => BodyEnd::Continue,
     }
 }
 
 /// How a body ends: with a value, a fault by its number and text, or another code.
-pub fn push_end(alloc: Global, out: &mut Text, end: End<'_>) -> M<()> {
+pub fn push_end(alloc: Global, out: &mut Text, end: BodyEnd<'_>) -> M<()> {
     match end {
-        End::Value(value) => push_hex(alloc, out, b"ends ", value),
-        End::Return(value) => push_hex(alloc, out, b"returns ", value),
-        End::Raised(fault) => {
+        BodyEnd::Value(value) => push_hex(alloc, out, b"ends ", value),
+        BodyEnd::Return(value) => push_hex(alloc, out, b"returns ", value),
+        BodyEnd::Raised(fault) => {
             push_number(alloc, out, b"fault ", fault.kind as u64)?;
             push_hex(alloc, out, b" ", &fault.text)
         }
-        End::Break => out.push(b"break"),
-        End::Continue => out.push(b"continue"),
+        BodyEnd::Break => out.push(b"break"),
+        BodyEnd::Continue => out.push(b"continue"),
     }
 }
 
@@ -85,7 +85,7 @@ pub fn push_asks(alloc: Global, out: &mut Text, call: &Texts) -> M<()> {
 pub fn push_whole(
     alloc: Global,
     out: &mut Text,
-    body: Body<'_>,
+    body: AskedBody<'_>,
     host: &Echo,
     vars: &Vars,
 ) -> M<()> {

@@ -1,8 +1,8 @@
 // Bodies by the plain evaluator.
 
-use crate::body::Body;
+use crate::body::AskedBody;
 use crate::echo::Echo;
-use crate::outcome::{End, plain_end, push_asks, push_end, push_hex, push_whole};
+use crate::outcome::{BodyEnd, plain_end, push_asks, push_end, push_hex, push_whole};
 use plain_eval::{Plain, Replies, eval_plain};
 use px_bytes::{M, TclFault, Text};
 use std::alloc::Global;
@@ -29,7 +29,7 @@ impl Plained {
     fn run(
         &mut self,
         alloc: Global,
-        body: Body<'_>,
+        body: AskedBody<'_>,
         replies: &Replies,
         statics: &Vars,
         vars: &mut Vars,
@@ -72,7 +72,7 @@ impl Plained {
 }
 
 /// What a body comes to on these replies.
-pub fn plain(alloc: Global, body: Body<'_>, replies: &Replies) -> M<Plained> {
+pub fn plain(alloc: Global, body: AskedBody<'_>, replies: &Replies) -> M<Plained> {
     let statics = Vars::new(alloc);
     let mut vars = Vars::new(alloc);
     let mut host = Echo::new(alloc);
@@ -90,12 +90,12 @@ pub fn plain(alloc: Global, body: Body<'_>, replies: &Replies) -> M<Plained> {
     }
 }
 
-fn push_uncaught(alloc: Global, out: &mut Text, end: End<'_>) -> M<()> {
+fn push_uncaught(alloc: Global, out: &mut Text, end: BodyEnd<'_>) -> M<()> {
     match end {
-        End::Raised(fault) => out.push(fault.text.as_bytes()),
-        End::Break => push_fault(out, TclFault::outside_loop(alloc, b"break")),
-        End::Continue => push_fault(out, TclFault::outside_loop(alloc, b"continue")),
-        End::Value(_) | End::Return(_) => Ok(()),
+        BodyEnd::Raised(fault) => out.push(fault.text.as_bytes()),
+        BodyEnd::Break => push_fault(out, TclFault::outside_loop(alloc, b"break")),
+        BodyEnd::Continue => push_fault(out, TclFault::outside_loop(alloc, b"continue")),
+        BodyEnd::Value(_) | BodyEnd::Return(_) => Ok(()),
     }
 }
 

@@ -3,7 +3,7 @@
 ghost use Rattle.std.specs.Prelude.{IfOk, IfSome, ◌<◌, ◌≡◌};
 ghost use Rattle.frames.specs.Went.{IsAsked, IsRunning, TurnIs};
 
-use crate::body::Body;
+use crate::body::AskedBody;
 use crate::echo::Echo;
 use crate::outcome::{end_of, push_asks, push_end, push_whole};
 use crate::run::Run;
@@ -22,7 +22,7 @@ const MOST: u32 = 4_000_000;
 /// ticks that its steps told, and whether each told one to ten.
 #[derive(Drop)]
 struct Runner<'a> {
-    body: Body<'a>,
+    body: AskedBody<'a>,
     machine: Machine,
     statics: Vars,
     vars: Vars,
@@ -32,7 +32,7 @@ struct Runner<'a> {
 }
 
 impl<'a> Runner<'a> {
-    fn new(alloc: Global, body: Body<'a>) -> Runner<'a>
+    fn new(alloc: Global, body: AskedBody<'a>) -> Runner<'a>
         ensures { IsRunning result.machine.at.mode }
     {
         Runner {
@@ -87,7 +87,7 @@ impl<'a> Runner<'a> {
     fn run<L: Ledger>(
         &mut self,
         alloc: Global,
-        replies: Given<'_>,
+        replies: GivenReplies<'_>,
         slice: u32,
         run: &mut Run,
         steps: &mut Steps<L>,
@@ -110,10 +110,10 @@ impl<'a> Runner<'a> {
         &mut self,
         alloc: Global,
         turn: Turn,
-        left: Given<'r>,
+        left: GivenReplies<'r>,
         run: &mut Run,
         counted: u64,
-    ) -> M<Option<Given<'r>>>
+    ) -> M<Option<GivenReplies<'r>>>
         requires { TurnIs turn self.old.machine.at }
         ensures { IfOk result (λ r. IfSome r (λ _. IsRunning self.new.machine.at.mode)) }
     {
@@ -139,17 +139,17 @@ impl<'a> Runner<'a> {
         &mut self,
         alloc: Global,
         call: &Texts,
-        left: Given<'r>,
+        left: GivenReplies<'r>,
         run: &mut Run,
         counted: u64,
-    ) -> M<Option<Given<'r>>>
+    ) -> M<Option<GivenReplies<'r>>>
         requires { IsAsked self.old.machine.at.mode }
         ensures { IfOk result (λ r. IfSome r (λ _. IsRunning self.new.machine.at.mode)) }
     {
         if let Some((reply, more)) = left.replies.split_first() {
             self.note(alloc, call, run)?;
             self.machine.resume(reply)?;
-            return Ok(Some(Given {
+            return Ok(Some(GivenReplies {
                 replies: more,
                 ..left
             }));
@@ -195,13 +195,18 @@ impl<'a> Runner<'a> {
 
 /// The replies that are left, and how many calls may have one, behind which each gets the empty one.
 #[derive(Clone, Copy)]
-pub struct Given<'r> {
+pub struct GivenReplies<'r> {
     pub replies: &'r [Reply],
     pub empty: u32,
 }
 
 /// What a body comes to on these replies, and on so many empty ones behind them, in slices.
-pub fn stepped(alloc: Global, body: Body<'_>, replies: Given<'_>, slice: u32) -> M<Run> {
+pub fn stepped(
+    alloc: Global,
+    body: AskedBody<'_>,
+    replies: GivenReplies<'_>,
+    slice: u32,
+) -> M<Run> {
     let mut runner = Runner::new(alloc, body);
     let mut run = Run::new(alloc);
     let ran = run_counted::<Brand>(alloc, &mut runner, replies, slice, &mut run, Blank::new(1));
@@ -218,7 +223,7 @@ pub fn stepped(alloc: Global, body: Body<'_>, replies: Given<'_>, slice: u32) ->
 fn run_counted<L: Ledger>(
     alloc: Global,
     runner: &mut Runner<'_>,
-    replies: Given<'_>,
+    replies: GivenReplies<'_>,
     slice: u32,
     run: &mut Run,
     blank: Blank,

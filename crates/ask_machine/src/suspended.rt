@@ -4,7 +4,7 @@ ghost use Rattle.std.specs.Prelude.{◌<◌, ◌≡◌};
 
 use crate::echo::Echo;
 use crate::outcome::{end_of, push_asks, push_end, push_hex};
-use conn::{Body, Handler};
+use conn::{Handler, RunningBody};
 use frame_machine::Stepper;
 use frames::Turn;
 use px_bytes::{M, Reply, Steps, Text};
@@ -23,7 +23,7 @@ const MOST_SLICES: u32 = 4_000;
 #[derive(Drop)]
 struct Suspended<'a> {
     handler: Handler<'a>,
-    body: Body,
+    body: RunningBody,
     statics: Vars,
     vars: Vars,
     host: Echo,
@@ -31,7 +31,7 @@ struct Suspended<'a> {
 
 impl<'a> Suspended<'a> {
     fn new(alloc: Global, handler: Handler<'a>, budget: u32) -> Suspended<'a> {
-        let mut body = Body::new(alloc);
+        let mut body = RunningBody::new(alloc);
         body.begin(budget);
         Suspended {
             handler,

@@ -2,8 +2,10 @@
 #![tactic(auto)]
 
 mod serve_real;
+mod test_real;
 
 use crate::serve_real::serve_real;
+use crate::test_real::test_real;
 use proxy::{Status, UsageFault, offline, serve_of};
 use px_bytes::{Text, Texts};
 use px_real::{RealFiles, StdoutSink};
@@ -11,6 +13,7 @@ use std::alloc::Global;
 use std::io::{self, ErrorKind};
 use std::process::ExitCode;
 use std::rt::Env;
+use test_words::begins_test;
 
 /// The status where no memory is found for the words.
 const NO_MEMORY: u8 = 7;
@@ -37,6 +40,9 @@ fn run(rt: &HostRuntime) -> io::Result<Status> {
 }
 
 fn run_words(rt: &HostRuntime, words: &Texts) -> io::Result<Status> {
+    if begins_test(words.as_slice()) {
+        return Ok(test_real(rt, words));
+    }
     match serve_of(rt.alloc(), words) {
         Ok(serve) => Ok(serve_real(rt, words, serve.journal)),
         Err(UsageFault::Usage) => Ok(run_offline(rt, words)),

@@ -1,3 +1,4 @@
+pub mod DocumentTypes
 mod Documents
 mod FirstTold
 mod Firsts
@@ -12,5 +13,6 @@ mod Migrating
 mod MisplacedWords
 mod OneReading
 mod Readings
+mod RowsAreTexts
 mod RulesInTurn
 mod WorkedRows

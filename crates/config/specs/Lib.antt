@@ -23,6 +23,7 @@ pub mod Rules
 pub mod Settings
 pub mod Spots
 pub mod Tables
+pub mod TextRows
 pub mod Texts
 pub mod Values
 pub mod Versions

@@ -13,7 +13,7 @@ ghost use Rattle.tcl_words.specs.View.{command_view, script_view, word_view};
 use event_order::{EventName, read_event};
 use px_bytes::M;
 use std::alloc::Global;
-use tcl_words::{Command, LIMIT, Progress, Script, Word};
+use tcl_words::{LIMIT, Progress, Script, ScriptCommand, Word};
 
 /// The places of the words of the first event that only virtual servers with HTTP have, and of the
 /// first one that only those without it have.
@@ -86,13 +86,13 @@ fn misplaced_word(http: bool, words: &[Word]) -> Option<usize>
     }
 }
 
-fn misplaced_command(http: bool, command: &Command) -> Option<usize>
+fn misplaced_command(http: bool, command: &ScriptCommand) -> Option<usize>
     ensures { result ≡ misplaced_command http (command_view command.now) }
 {
     misplaced_word(http, command.words.as_slice())
 }
 
-fn first_misplaced(http: bool, commands: &[Command]) -> Option<usize>
+fn first_misplaced(http: bool, commands: &[ScriptCommand]) -> Option<usize>
     ensures { result ≡ first_misplaced http (map command_view commands.now) }
 {
     for command in commands {

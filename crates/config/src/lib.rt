@@ -50,7 +50,7 @@ pub use fault::{ConfigError, ConfigFault, ConfigFaultKind};
 pub use laws::{first_is_told, loaded_is_filled, one_configuration};
 pub use loaded_rules::LoadedRules;
 pub use migration::migrated;
-pub use reader::{LoadedConfig, read_config};
+pub use reader::{LoadedConfig, read_config, table_config};
 pub use rule_text::{LoadedRule, RuleText};
 pub use section::Section;
 pub use spot::{Source, Spot};

@@ -2,11 +2,12 @@
 
 ghost use Rattle.std.specs.Prelude.{◌≡◌, ◌≤◌, IfOk, IfErr, Some, length};
 ghost use Rattle.toml.specs.View.{table_view};
-ghost use Rattle.config.specs.Documents.{items_at};
+ghost use Rattle.config.specs.Documents.{document_fault, items_at};
 ghost use Rattle.config.specs.Keys.{name_key};
 ghost use Rattle.config.specs.Keys as key;
 ghost use Rattle.config.specs.Loading.{OfFault};
 ghost use Rattle.config.specs.Misplaced.{first_misplaced};
+ghost use Rattle.config.specs.TextRows.{AllAreTexts};
 ghost use Rattle.config.specs.Texts.{first_place};
 ghost use Rattle.config.specs.Outcomes.{Answers, IsDocument, Loads, OfDocument, RefusesDocument};
 ghost use Rattle.config.specs.Outcomes.{not_toml, told_fault};
@@ -93,9 +94,11 @@ fn misplaced_of(
 }
 
 // The configuration of a document without faults.
+#[tactic(auto, using(crate::proofs::RowsAreTexts::rows_are_texts))]
 fn loaded<F: Files>(alloc: Global, files: &mut F, top: &Table) -> Result<LoadedConfig, ConfigError>
     ensures answer { Loads (F.told files.old) (F.faults files.old) (F.faults files.new)
         (table_view top.now) result }
+    ensures texts { IfOk result (λ C. AllAreTexts C.settings.groups) }
     ensures same_files { F.told files.new ≡ F.told files.old }
     ensures faults_never_fall { F.faults files.old ≤ F.faults files.new }
 {
@@ -116,12 +119,30 @@ pub(crate) fn of_document<F: Files>(
 ) -> Result<LoadedConfig, ConfigError>
     ensures answer { OfDocument (F.told files.old) (F.faults files.old) (F.faults files.new)
         (table_view top.now) (told_fault bytes.now (table_view top.now)) result }
+    ensures texts { IfOk result (λ C. AllAreTexts C.settings.groups) }
     ensures same_files { F.told files.new ≡ F.told files.old }
     ensures faults_never_fall { F.faults files.old ≤ F.faults files.new }
 {
     match document_fault(alloc, top)? {
         Some(fault) => Err(ConfigError::Fault(with_line(alloc, bytes, fault)?)),
         None => loaded(alloc, files, top),
+    }
+}
+
+/// The configuration that a table is, or what is wrong with it first; a key stands on no line.
+pub fn table_config<F: Files>(
+    alloc: Global,
+    files: &mut F,
+    table: &Table,
+) -> Result<LoadedConfig, ConfigError>
+    ensures answer { OfDocument (F.told files.old) (F.faults files.old) (F.faults files.new)
+        (table_view table.now) (document_fault (table_view table.now)) result }
+    ensures same_files { F.told files.new ≡ F.told files.old }
+    ensures faults_never_fall { F.faults files.old ≤ F.faults files.new }
+{
+    match document_fault(alloc, table)? {
+        Some(fault) => Err(ConfigError::Fault(fault)),
+        None => loaded(alloc, files, table),
     }
 }
 
@@ -133,6 +154,7 @@ pub fn read_config<F: Files>(
 ) -> Result<LoadedConfig, ConfigError>
     ensures answer { Answers (F.told files.old) (F.faults files.old) (F.faults files.new) name.now
         result }
+    ensures texts { IfOk result (λ C. AllAreTexts C.settings.groups) }
     ensures same_files { F.told files.new ≡ F.told files.old }
     ensures faults_never_fall { F.faults files.old ≤ F.faults files.new }
 {

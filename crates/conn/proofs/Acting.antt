@@ -39,7 +39,7 @@ use Rattle.conn.specs.Stages.{InEvent as HostIn, cause_for, fits, has_finished, 
 use Rattle.conn.specs.Relaying.{queue_end}
 use Rattle.conn.specs.Steps.{queue_both}
 use Rattle.conn.specs.declared.connection.Conn.{Conn}
-use Rattle.conn.specs.declared.ends.End.{End}
+use Rattle.conn.specs.declared.ends.ConnectionEnd.{ConnectionEnd}
 use Rattle.conn.specs.declared.ends.Ends.{Ends}
 use Rattle.conn.specs.declared.ends.Link.{Link}
 use Rattle.conn.specs.declared.ends.Link.TheVariants as link
@@ -368,7 +368,7 @@ pub record SameBeside (l at : TraceState) : Type 0 where
   pub choices : at.answers.choices ≡ l.answers.choices
   pub cut : at.answers.cut ≡ l.answers.cut
 
-queued_side : (k : Link) (e : End) (bytes : List ℕ) → server_by k (queue_end bytes e) ≡ server_by k e
+queued_side : (k : Link) (e : ConnectionEnd) (bytes : List ℕ) → server_by k (queue_end bytes e) ≡ server_by k e
 queued_side link.Absent e bytes = refl
 queued_side link.Asked e bytes = refl
 queued_side link.Refused e bytes = refl
@@ -377,7 +377,7 @@ queued_side link.Up e bytes = refl
 queued_side link.GivenUp e bytes = refl
 queued_side (link.Leaving w) e bytes = refl
 
-queued_answer : (k : Link) (e : End) (bytes : List ℕ) → connects_by k (queue_end bytes e) ≡ connects_by k e
+queued_answer : (k : Link) (e : ConnectionEnd) (bytes : List ℕ) → connects_by k (queue_end bytes e) ≡ connects_by k e
 queued_answer link.Absent e bytes = refl
 queued_answer link.Asked e bytes = refl
 queued_answer link.Refused e bytes = refl

@@ -18,7 +18,7 @@ use Rattle.conn.specs.Events.{event_of}
 use Rattle.conn.specs.Holds.{Around, Between, Holds, HoldsEnds, RunsFirst, Stands}
 use Rattle.conn.specs.Stages.{fits, has_finished}
 use Rattle.conn.specs.declared.connection.Conn.{Conn}
-use Rattle.conn.specs.declared.ends.End.{End}
+use Rattle.conn.specs.declared.ends.ConnectionEnd.{ConnectionEnd}
 use Rattle.conn.specs.declared.ends.Ends.{Ends}
 use Rattle.conn.specs.declared.ends.Link.{Link}
 use Rattle.conn.specs.declared.ends.Link.TheVariants as link
@@ -98,24 +98,24 @@ longer_is c d k l none =
     }
 
 -- behind the end nothing comes
-by_end : (b : Bool) (c : Coming) (e : End) → longer_by b c (arrived e) ≡ arrived (heard_by b c e)
+by_end : (b : Bool) (c : Coming) (e : ConnectionEnd) → longer_by b c (arrived e) ≡ arrived (heard_by b c e)
 by_end true c e = refl
 by_end false c e = refl
 
-pub heard_arrived : (c : Coming) (e : End) → longer_stream c (arrived e) ≡ arrived (heard_end c e)
+pub heard_arrived : (c : Coming) (e : ConnectionEnd) → longer_stream c (arrived e) ≡ arrived (heard_end c e)
 heard_arrived c e = by_end e.ended c e
 
-heard_reset : (b : Bool) (c : Coming) (e : End) → (heard_by b c e).reset ≡ e.reset
+heard_reset : (b : Bool) (c : Coming) (e : ConnectionEnd) → (heard_by b c e).reset ≡ e.reset
 heard_reset true c e = refl
 heard_reset false c e = refl
 
-heard_queued : (b : Bool) (c : Coming) (e : End) → (heard_by b c e).queued ≡ e.queued
+heard_queued : (b : Bool) (c : Coming) (e : ConnectionEnd) → (heard_by b c e).queued ≡ e.queued
 heard_queued true c e = refl
 heard_queued false c e = refl
 
 -- other ends
 module _ (a : Around) (l : TraceState) (e : Ends) (h : HoldsEnds a l e) where
-  pub with_client : (s : Stream) (v : ServerSide) (k : List (Option Stream)) (x : End) → s ≡ arrived x → v ≡ l.server → k ≡ l.answers.connects → x.reset ≡ e.client.reset → x.queued ≡ e.client.queued → HoldsEnds a (changed s v k l) (record e { client = x })
+  pub with_client : (s : Stream) (v : ServerSide) (k : List (Option Stream)) (x : ConnectionEnd) → s ≡ arrived x → v ≡ l.server → k ≡ l.answers.connects → x.reset ≡ e.client.reset → x.queued ≡ e.client.queued → HoldsEnds a (changed s v k l) (record e { client = x })
   with_client s v k x is same_server same_connects reset queued = record {
     client = is;
     client_took = h.client_took ∙ ap (λ b. taken_by b a.counted) (sym reset);
@@ -131,7 +131,7 @@ module _ (a : Around) (l : TraceState) (e : Ends) (h : HoldsEnds a l e) where
     connecting = h.connecting;
   }
 
-  pub with_server : (s : Stream) (v : ServerSide) (k : List (Option Stream)) (x : End) → s ≡ l.client → v ≡ server_by e.link x → k ≡ connects_by e.link x → x.reset ≡ e.server.reset → x.queued ≡ e.server.queued → (has_stream e.link ≡ false → x ≡ fresh_end) → HoldsEnds a (changed s v k l) (record e { server = x })
+  pub with_server : (s : Stream) (v : ServerSide) (k : List (Option Stream)) (x : ConnectionEnd) → s ≡ l.client → v ≡ server_by e.link x → k ≡ connects_by e.link x → x.reset ≡ e.server.reset → x.queued ≡ e.server.queued → (has_stream e.link ≡ false → x ≡ fresh_end) → HoldsEnds a (changed s v k l) (record e { server = x })
   with_server s v k x same_client is_server is_connects reset queued came = record {
     client = same_client ∙ h.client;
     client_took = h.client_took;
@@ -165,7 +165,7 @@ module _ (a : Around) (l : TraceState) (e : Ends) (h : HoldsEnds a l e) where
   }
 
 -- what comes of a server is put where its link says
-server_grows : (c : Coming) (k : Link) (s : End) → longer_server (left_for c (connects_by k s)) (server_by k s) ≡ server_by k (if has_stream k then heard_end c s else s)
+server_grows : (c : Coming) (k : Link) (s : ConnectionEnd) → longer_server (left_for c (connects_by k s)) (server_by k s) ≡ server_by k (if has_stream k then heard_end c s else s)
 server_grows c link.Absent s = refl
 server_grows c link.Asked s = refl
 server_grows c link.Refused s = refl
@@ -174,7 +174,7 @@ server_grows c link.Up s = ap There (heard_arrived c s)
 server_grows c link.GivenUp s = ap Retired (heard_arrived c s)
 server_grows c (link.Leaving w) s = ap (Leaving (behind_of w)) (heard_arrived c s)
 
-connects_grow : (c : Coming) (k : Link) (s : End) → on_last c (connects_by k s) ++ [] ≡ connects_by k (if has_stream k then heard_end c s else s)
+connects_grow : (c : Coming) (k : Link) (s : ConnectionEnd) → on_last c (connects_by k s) ++ [] ≡ connects_by k (if has_stream k then heard_end c s else s)
 connects_grow c link.Absent s = refl
 connects_grow c link.Asked s = refl
 connects_grow c link.Refused s = refl
@@ -184,18 +184,18 @@ connects_grow c link.GivenUp s = refl
 connects_grow c (link.Leaving w) s = refl
 
 -- by whether bytes of a server may come
-abbrev heard_where : (b : Bool) (c : Coming) (s : End) → End
+abbrev heard_where : (b : Bool) (c : Coming) (s : ConnectionEnd) → ConnectionEnd
 heard_where b c s = if b then heard_end c s else s
 
-where_reset : (b : Bool) (c : Coming) (s : End) → (heard_where b c s).reset ≡ s.reset
+where_reset : (b : Bool) (c : Coming) (s : ConnectionEnd) → (heard_where b c s).reset ≡ s.reset
 where_reset true c s = heard_reset s.ended c s
 where_reset false c s = refl
 
-where_queued : (b : Bool) (c : Coming) (s : End) → (heard_where b c s).queued ≡ s.queued
+where_queued : (b : Bool) (c : Coming) (s : ConnectionEnd) → (heard_where b c s).queued ≡ s.queued
 where_queued true c s = heard_queued s.ended c s
 where_queued false c s = refl
 
-where_fresh : (b : Bool) (c : Coming) (s : End) → (b ≡ false → s ≡ fresh_end) → b ≡ false → heard_where b c s ≡ fresh_end
+where_fresh : (b : Bool) (c : Coming) (s : ConnectionEnd) → (b ≡ false → s ≡ fresh_end) → b ≡ false → heard_where b c s ≡ fresh_end
 where_fresh true c s k e = absurd (cc)
 where_fresh false c s k e = k e
 
@@ -299,18 +299,18 @@ none_taken_by ts link.GivenUp b n = none_behind ts (taken_by b n)
 none_taken_by ts (link.Leaving w) b n = none_behind ts (taken_by b n)
 
 -- by whether bytes of a server may come
-abbrev reset_where : Bool → End → End
+abbrev reset_where : Bool → ConnectionEnd → ConnectionEnd
 reset_where b s = if b then reset_end s else s
 
-reset_fresh : (b : Bool) (s : End) → (b ≡ false → s ≡ fresh_end) → b ≡ false → reset_where b s ≡ fresh_end
+reset_fresh : (b : Bool) (s : ConnectionEnd) → (b ≡ false → s ≡ fresh_end) → b ≡ false → reset_where b s ≡ fresh_end
 reset_fresh true s k e = absurd (cc)
 reset_fresh false s k e = k e
 
-reset_flag : (b : Bool) (s : End) → (reset_where b s).reset ≡ (if b then true else s.reset)
+reset_flag : (b : Bool) (s : ConnectionEnd) → (reset_where b s).reset ≡ (if b then true else s.reset)
 reset_flag true s = refl
 reset_flag false s = refl
 
-reset_same : (b : Bool) (k : Link) (s : End) → (server_by k (reset_where b s) ≡ server_by k s) × (connects_by k (reset_where b s) ≡ connects_by k s) × ((reset_where b s).queued ≡ s.queued)
+reset_same : (b : Bool) (k : Link) (s : ConnectionEnd) → (server_by k (reset_where b s) ≡ server_by k s) × (connects_by k (reset_where b s) ≡ connects_by k s) × ((reset_where b s).queued ≡ s.queued)
 reset_same true link.Absent s = (refl, refl, refl)
 reset_same true link.Asked s = (refl, refl, refl)
 reset_same true link.Refused s = (refl, refl, refl)

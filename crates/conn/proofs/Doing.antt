@@ -20,7 +20,7 @@ use Rattle.conn.specs.Bodies.{SaidIs}
 use Rattle.conn.specs.Events.{event_of}
 use Rattle.conn.specs.Hosts.{KeepsCollects, Made, OneAtMost, SendsWhere, Told, cleared_host, client_bytes, seen_host, server_bytes, made_in}
 use Rattle.conn.specs.Steps.{DoesMade, one_of, queue_both}
-use Rattle.conn.specs.declared.body.Body.{Body}
+use Rattle.conn.specs.declared.body.RunningBody.{RunningBody}
 use Rattle.conn.specs.declared.connection.Conn.{Conn}
 use Rattle.conn.specs.declared.host.RuleHost.{RuleHost}
 use Rattle.conn.specs.declared.ends.Link.{Link}
@@ -45,8 +45,8 @@ went_same g t old a b said made ticks k w =
     ap (λ x. place x.machine.at a.vars (seen_host a.host)) (sym k.body) ∙ ap (λ x. place b.body.machine.at x (seen_host a.host)) (sym k.vars) ∙ ap (λ x. place b.body.machine.at b.vars x) (sym k.seen) in
     subst P is w
 
-pub said_same : (said : Turn) (a b : Body) → a ≡ b → SaidIs said a → SaidIs said b
-said_same said a b is k = let P : Body → Type 0 = λ x. SaidIs said x in subst P is k
+pub said_same : (said : Turn) (a b : RunningBody) → a ≡ b → SaidIs said a → SaidIs said b
+said_same said a b is k = let P : RunningBody → Type 0 = λ x. SaidIs said x in subst P is k
 
 -- one effect at most, and to a server only where one is up
 one_first : (up : Bool) (side : Side) (relays : Bool) (es : List Effect) → (side ≡ Server → up ≡ true) → (relays ≡ true → up ≡ true) → OneTo side relays es → SendsWhere up es × OneAtMost es

@@ -26,7 +26,7 @@ use Rattle.conn.specs.Servers.{queue_at_server}
 use Rattle.conn.specs.Setups.{Serves}
 use Rattle.conn.specs.Stages.{InEvent as HostIn, fits, has_finished, is_asking, is_in_body}
 use Rattle.conn.specs.declared.connection.Conn.{Conn}
-use Rattle.conn.specs.declared.ends.End.{End}
+use Rattle.conn.specs.declared.ends.ConnectionEnd.{ConnectionEnd}
 use Rattle.conn.specs.declared.ends.Ends.{Ends}
 use Rattle.conn.specs.declared.ends.Link.{Link}
 use Rattle.conn.specs.declared.ends.Link.TheVariants as link
@@ -55,7 +55,7 @@ free_down link.Refused fit = absurd (true≢false (sym fit))
 free_down link.Made fit = absurd (true≢false (sym fit))
 free_down link.Up fit = absurd (true≢false (sym fit))
 
-free_answers : (k : Link) (e : End) → not (is_sought k) ≡ true → connects_by k e ≡ []
+free_answers : (k : Link) (e : ConnectionEnd) → not (is_sought k) ≡ true → connects_by k e ≡ []
 free_answers link.Absent e fit = refl
 free_answers link.GivenUp e fit = refl
 free_answers (link.Leaving w) e fit = refl

@@ -25,7 +25,7 @@ use Rattle.conn.specs.Relaying.{Fires as FiresBytes, PassesOn as PassesBytes, in
 use Rattle.conn.specs.Setups.{Serves}
 use Rattle.conn.specs.Stages.{InEvent as HostIn, cause_for, fits, has_finished, is_asking}
 use Rattle.conn.specs.declared.connection.Conn.{Conn}
-use Rattle.conn.specs.declared.ends.End.{End}
+use Rattle.conn.specs.declared.ends.ConnectionEnd.{ConnectionEnd}
 use Rattle.conn.specs.declared.ends.Ends.{Ends}
 use Rattle.conn.specs.declared.ends.Link.{Link}
 use Rattle.conn.specs.declared.ends.Link.TheVariants as link
@@ -128,7 +128,7 @@ data OfSide (side : Side) (c : Conn) (later : Relay) : Relay → Type 0 where
   Waits : may_relay (ready (asks_of side c) (end_of side c.ends).unread) (nat_lt (length (queue_of (end_of (other side) c.ends))) room_limit) ≡ false → OfSide side c later later
 
 -- by its collect
-by_asks : (side : Side) (c : Conn) (later : Relay) (from to : End) → from ≡ end_of side c.ends → to ≡ end_of (other side) c.ends → passable side c ≡ to_pass from to → (asks : Asks) → asks_of side c ≡ asks → OfSide side c later (side_plan side asks from to later)
+by_asks : (side : Side) (c : Conn) (later : Relay) (from to : ConnectionEnd) → from ≡ end_of side c.ends → to ≡ end_of (other side) c.ends → passable side c ≡ to_pass from to → (asks : Asks) → asks_of side c ≡ asks → OfSide side c later (side_plan side asks from to later)
 by_asks side c later from to here there count NotAsked is = by_count (nat_lt 0 (to_pass from to)) refl
   where
     by_count : (b : Bool) → nat_lt 0 (to_pass from to) ≡ b → OfSide side c later (if b then relay.Pass side (to_pass from to) else later)

@@ -46,7 +46,7 @@ use Rattle.conn.specs.Setups.{body_at, body_in, places_at, Serves}
 use Rattle.conn.specs.Stages.{InEvent as HostIn, accepted_stage, after_stage, at_fits, collect_stage, connected_stage, connecting_stage, data_stage, entered_by, failed_stage, fits, gathering_stage, has_finished, is_asking, leaving_stage, loose_stage, request_data_stage, request_stage, response_stage, routed_stage, unless_ended}
 use Rattle.conn.specs.declared.connection.Conn.{Conn}
 use Rattle.conn.specs.declared.ends.Behind.{Behind}
-use Rattle.conn.specs.declared.ends.End.{End}
+use Rattle.conn.specs.declared.ends.ConnectionEnd.{ConnectionEnd}
 use Rattle.conn.specs.declared.ends.Ends.{Ends}
 use Rattle.conn.specs.declared.ends.Link.{Link}
 use Rattle.conn.specs.declared.ends.Link.TheVariants as link
@@ -169,7 +169,7 @@ up_is link.Up = refl
 up_is link.GivenUp = refl
 up_is (link.Leaving w) = refl
 
-link_side : (k : Link) (e : End) → link_of (server_by k e) ≡ link_by k
+link_side : (k : Link) (e : ConnectionEnd) → link_of (server_by k e) ≡ link_by k
 link_side link.Absent e = refl
 link_side link.Asked e = refl
 link_side link.Refused e = refl

@@ -10,7 +10,7 @@ use Rattle.conn_trace.specs.Gates.{other}
 use Rattle.conn_trace.specs.Relay.{is_done}
 use Rattle.conn.specs.Ends.{end_of}
 use Rattle.conn.specs.Relaying.{incoming_of, passes_now, plan_of, relay_plan, side_plan, to_pass}
-use Rattle.conn.specs.declared.ends.End.{End}
+use Rattle.conn.specs.declared.ends.ConnectionEnd.{ConnectionEnd}
 use Rattle.conn.specs.declared.ends.Ends.{Ends}
 use Rattle.conn.specs.declared.relay.Relay.{Relay}
 use Rattle.conn.specs.declared.relay.Relay.TheVariants as relay
@@ -21,7 +21,7 @@ Within e (relay.Pass side n) = passes_now side n e
 Within e (relay.Fire side n) = passes_now side n e
 Within e relay.Rest = Unit {0}
 
-side_within : (side : Side) (e : Ends) (from to : End) → from ≡ end_of side e → (asks : Asks) (later : Relay) → Within e later → Within e (side_plan side asks from to later)
+side_within : (side : Side) (e : Ends) (from to : ConnectionEnd) → from ≡ end_of side e → (asks : Asks) (later : Relay) → Within e later → Within e (side_plan side asks from to later)
 side_within side e from to here NotAsked later k = by_count (nat_lt 0 (to_pass from to))
   where
     within : to_pass from to ≤ length from.unread

@@ -22,7 +22,7 @@ use Rattle.irule_net.specs.Commands.{asked_by, asked_of, is_http, net_step, step
 use Rattle.irule_net.specs.Forms.{class_form, clock_form, form_of, payload_form, reselect_form, server_form, without_http}
 use Rattle.irule_net.specs.Classes.{class_value}
 use Rattle.session_table.specs.Requests.{checked}
-use Rattle.irule_net.specs.Requests.{Asked, class_asked, collect_asked, count_in, log_asked, members_asked, node_asked, part_asked, pool_asked, replace_asked, request_of, reselect_node_asked, reselect_pool_asked, respond_asked, table_asked}
+use Rattle.irule_net.specs.Requests.{Asked, after_asked, class_asked, collect_asked, count_in, log_asked, members_asked, node_asked, part_asked, pool_asked, replace_asked, request_of, reselect_node_asked, reselect_pool_asked, respond_asked, table_asked}
 use Rattle.px_bytes.specs.WholeWord.{number_of}
 use Rattle.irule_net.specs.State.{asked_bytes, collected, gone, holds, other, respond_limit, side_of, with_collected}
 use Rattle.irule_net.specs.declared.state.Asks.TheVariants.{Stated}
@@ -224,6 +224,11 @@ module _ (groups : Groups) (event : EventName) (s : NetState) (words : List (Lis
   members_quick (name ∷ []) = one_test {A = Unit {0}} P (pool_named groups.pools name) _ (λ there. does (keeps_all event s)) bad
   members_quick (name ∷ (other ∷ ws)) = bad _
 
+  after_quick : (ws : List (List ℕ)) → P (after_asked ws)
+  after_quick [] = bad _
+  after_quick (word ∷ []) = two_tests {A = ℤ} {B = ℕ} P (number_of word) count_in _ (λ n. does (keeps_all event s)) bad
+  after_quick (word ∷ (other ∷ ws)) = bad _
+
   -- a collect of the event's side, its release, and what it holds
   abbrev Own : Type 0
   Own = collects_in (side_of event) event ≡ true
@@ -395,6 +400,7 @@ module _ (groups : Groups) (event : EventName) (s : NetState) (words : List (Lis
   command_quick command.ActiveMembers there = fitting P _ (allowed command.ActiveMembers) _ _ _ _ (members_quick words) bad
   command_quick command.Table there = allowing P _ (allowed command.Table) _ _ table_quick bad
   command_quick command.Clock there = clock_quick words
+  command_quick command.After there = fitting P _ (allowed command.After) _ _ _ _ (after_quick words) bad
   command_quick command.Pool there = fitting P _ (allowed command.Pool) _ _ _ _ pool_quick bad
   command_quick command.Node there = fitting P _ (allowed command.Node) _ _ _ _ node_quick bad
   command_quick command.LbReselect there = reselect_quick words

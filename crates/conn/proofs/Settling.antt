@@ -43,7 +43,7 @@ use Rattle.conn.specs.Settling as settle
 use Rattle.conn.specs.Settling.{DropsReset, RestsWith, Settles, SettlesNotes, half_close, half_due, half_notes, is_over, is_spent, lost_by, lost_of, note_if, noted_in, over_in, rest_notes, settle_notes, settling, server_lost, gave_up, gave_up_at}
 use Rattle.conn.specs.Stages.{has_finished, is_draining, is_in_body, is_relaying, reason_for}
 use Rattle.conn.specs.declared.connection.Conn.{Conn}
-use Rattle.conn.specs.declared.ends.End.{End}
+use Rattle.conn.specs.declared.ends.ConnectionEnd.{ConnectionEnd}
 use Rattle.conn.specs.declared.ends.Ends.{Ends as BothEnds}
 use Rattle.conn.specs.declared.ends.Link.{Link as CodeLink}
 use Rattle.conn.specs.declared.ends.Link.TheVariants as link
@@ -182,7 +182,7 @@ settles c over e g a l h =
     ∙ ap (λ x. is_over (next_item g l) && (x && is_empty (queue_in Server c))) (sym (took_all a l c.ends h.ends Client))
     ∙ ap (λ x. is_over (next_item g l) && (settle.took_all l a.took Client && x)) (sym (took_all a l c.ends h.ends Server))
 
-given_up_side : (k : CodeLink) (e : End) → settle.is_given_up (link_of (server_by k e)) ≡ is_given_up k
+given_up_side : (k : CodeLink) (e : ConnectionEnd) → settle.is_given_up (link_of (server_by k e)) ≡ is_given_up k
 given_up_side link.Absent e = refl
 given_up_side link.Asked e = refl
 given_up_side link.Refused e = refl
@@ -234,7 +234,7 @@ settles_notes number c g a l h =
 closed_relay : (p q : Phase) (s : Link) → p ≡ q → relays_at q s ≡ false → relays_at p s ≡ false
 closed_relay p q s is n = ap (λ x. relays_at x s) is ∙ n
 
-up_relay : (k : CodeLink) (e : End) → relays_at Relaying (link_of (server_by k e)) ≡ is_up k
+up_relay : (k : CodeLink) (e : ConnectionEnd) → relays_at Relaying (link_of (server_by k e)) ≡ is_up k
 up_relay link.Absent e = refl
 up_relay link.Asked e = refl
 up_relay link.Refused e = refl
@@ -243,7 +243,7 @@ up_relay link.Up e = refl
 up_relay link.GivenUp e = refl
 up_relay (link.Leaving w) e = refl
 
-client_relay : (bodies : Bodies) (k : CodeLink) (e : End) → relays_at (InEvent ClientData bodies) (link_of (server_by k e)) ≡ is_up k
+client_relay : (bodies : Bodies) (k : CodeLink) (e : ConnectionEnd) → relays_at (InEvent ClientData bodies) (link_of (server_by k e)) ≡ is_up k
 client_relay bodies link.Absent e = refl
 client_relay bodies link.Asked e = refl
 client_relay bodies link.Refused e = refl
@@ -252,7 +252,7 @@ client_relay bodies link.Up e = refl
 client_relay bodies link.GivenUp e = refl
 client_relay bodies (link.Leaving w) e = refl
 
-server_relay : (bodies : Bodies) (k : CodeLink) (e : End) → relays_at (InEvent ServerData bodies) (link_of (server_by k e)) ≡ is_up k
+server_relay : (bodies : Bodies) (k : CodeLink) (e : ConnectionEnd) → relays_at (InEvent ServerData bodies) (link_of (server_by k e)) ≡ is_up k
 server_relay bodies link.Absent e = refl
 server_relay bodies link.Asked e = refl
 server_relay bodies link.Refused e = refl
@@ -261,7 +261,7 @@ server_relay bodies link.Up e = refl
 server_relay bodies link.GivenUp e = refl
 server_relay bodies (link.Leaving w) e = refl
 
-at_relays : (at : At) (bodies : Bodies) (k : CodeLink) (e : End) → relays_at (InEvent (event_of at) bodies) (link_of (server_by k e)) ≡ (is_data at && is_up k)
+at_relays : (at : At) (bodies : Bodies) (k : CodeLink) (e : ConnectionEnd) → relays_at (InEvent (event_of at) bodies) (link_of (server_by k e)) ≡ (is_data at && is_up k)
 at_relays at.Accepted bodies k e = refl
 at_relays at.ClientData bodies k e = client_relay bodies k e
 at_relays at.Selected bodies k e = refl
@@ -276,11 +276,11 @@ at_relays at.ServerData bodies k e = server_relay bodies k e
 at_relays at.ServerClosed bodies k e = refl
 at_relays at.Closed bodies k e = refl
 
-gated_relay : (at : At) (hs : List Handler) (p : Phase) (k : CodeLink) (e : End) → GatedBefore (event_of at) hs p → relays_at p (link_of (server_by k e)) ≡ (is_data at && is_up k)
+gated_relay : (at : At) (hs : List Handler) (p : Phase) (k : CodeLink) (e : ConnectionEnd) → GatedBefore (event_of at) hs p → relays_at p (link_of (server_by k e)) ≡ (is_data at && is_up k)
 gated_relay at [] p k e r = absurd r
 gated_relay at (b ∷ bs) p k e r = ap (λ x. relays_at x (link_of (server_by k e))) r ∙ at_relays at (Gated b bs) k e
 
-relays_is : (g : Setup) (st : Stage) (l : TraceState) (c : Conn) (k : CodeLink) (e : End) → Stands g st l c → is_in_body st ≡ false → relays_at l.phase (link_of (server_by k e)) ≡ is_relaying st k
+relays_is : (g : Setup) (st : Stage) (l : TraceState) (c : Conn) (k : CodeLink) (e : ConnectionEnd) → Stands g st l c → is_in_body st ≡ false → relays_at l.phase (link_of (server_by k e)) ≡ is_relaying st k
 relays_is g (stage.Gated at) l c k e r quiet = gated_relay at (g.handlers (event_of at)) l.phase k e r.0
 relays_is g (stage.Running at n) l c k e r quiet = absurd (true≢false quiet)
 relays_is g (stage.Asking at n) l c k e r quiet = absurd (true≢false quiet)
@@ -366,7 +366,7 @@ test_values true true false half = refl
 test_values true false reset half = refl
 test_values false took reset half = refl
 
-by_values : (e : End) (held loose : List ℕ) (took reset half : Bool) → ((is_done e && (is_empty held && is_empty loose)) && (took && (not reset && not half))) ≡ (tests true false (arrived e) held loose took reset && not half)
+by_values : (e : ConnectionEnd) (held loose : List ℕ) (took reset half : Bool) → ((is_done e && (is_empty held && is_empty loose)) && (took && (not reset && not half))) ≡ (tests true false (arrived e) held loose took reset && not half)
 by_values e held loose took reset half =
     let more = took && (not reset && not half) in
     let unread = query.is_empty e.unread in

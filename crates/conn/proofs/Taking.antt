@@ -10,7 +10,7 @@ use Rattle.conn.specs.Ends.{connects_by, end_of, fresh_end, is_up, queue_of, ser
 use Rattle.conn.specs.Holds.{Around, HoldsEnds}
 use Rattle.conn.specs.Stages.{fits}
 use Rattle.conn.specs.declared.connection.Conn.{Conn}
-use Rattle.conn.specs.declared.ends.End.{End}
+use Rattle.conn.specs.declared.ends.ConnectionEnd.{ConnectionEnd}
 use Rattle.conn.specs.declared.ends.Ends.{Ends}
 use Rattle.conn.specs.declared.ends.Link.{Link}
 use Rattle.conn.specs.declared.ends.Link.TheVariants as link
@@ -18,7 +18,7 @@ use Rattle.conn.proofs.Arriving.{holds, with_ends}
 use Rattle.conn.proofs.Servers.{more_behind, more_length, more_untaken}
 
 -- no more is queued than wasn't taken
-pub queue_within : (e : End) → length (queue_of e) ≤ length e.queued
+pub queue_within : (e : ConnectionEnd) → length (queue_of e) ≤ length e.queued
 queue_within e = by_reset e.reset
   where
     by_reset : (b : Bool) → length (if b then [] else e.queued) ≤ length e.queued
@@ -45,7 +45,7 @@ servers_more ts link.Up b m n = more_behind n ts (taken_by b m) ∙ ap (λ t. ts
 servers_more ts link.GivenUp b m n = more_behind n ts (taken_by b m) ∙ ap (λ t. ts ++ t ∷ []) (counted_more b m n)
 servers_more ts (link.Leaving w) b m n = more_behind n ts (taken_by b m) ∙ ap (λ t. ts ++ t ∷ []) (counted_more b m n)
 
-left_of : (n k sent : ℕ) (e : End) → n ≤ length (queue_of e) → length e.queued + k ≡ sent → length (drop n e.queued) + (k + n) ≡ sent
+left_of : (n k sent : ℕ) (e : ConnectionEnd) → n ≤ length (queue_of e) → length e.queued + k ≡ sent → length (drop n e.queued) + (k + n) ≡ sent
 left_of n k sent e within is = let d = length-drop n e.queued in let most = queue_within e in omega (arith, d, within, most, is)
 
 drop_none : (n : ℕ) → drop {A = ℕ} n [] ≡ []
@@ -53,14 +53,14 @@ drop_none zero = refl
 drop_none (suc n) = refl
 
 -- where nothing came nothing is queued either
-took_fresh : (n : ℕ) (e : End) → n ≤ length (queue_of e) → e ≡ fresh_end → record e { queued = drop n e.queued } ≡ fresh_end
+took_fresh : (n : ℕ) (e : ConnectionEnd) → n ≤ length (queue_of e) → e ≡ fresh_end → record e { queued = drop n e.queued } ≡ fresh_end
 took_fresh n e within is =
-    let P : End → Type 0 = λ x. record x { queued = drop n x.queued } ≡ fresh_end in
-    let Q : List ℕ → Type 0 = λ q. ◌≡◌ {A = End} (record fresh_end { queued = q }) fresh_end in
+    let P : ConnectionEnd → Type 0 = λ x. record x { queued = drop n x.queued } ≡ fresh_end in
+    let Q : List ℕ → Type 0 = λ q. ◌≡◌ {A = ConnectionEnd} (record fresh_end { queued = q }) fresh_end in
     subst P (sym is) (subst Q (sym (drop_none n)) refl)
 
 -- the link says the same of the trace
-took_same : (k : Link) (n : ℕ) (s : End) → (server_by k (record s { queued = drop n s.queued }) ≡ server_by k s) × (connects_by k (record s { queued = drop n s.queued }) ≡ connects_by k s)
+took_same : (k : Link) (n : ℕ) (s : ConnectionEnd) → (server_by k (record s { queued = drop n s.queued }) ≡ server_by k s) × (connects_by k (record s { queued = drop n s.queued }) ≡ connects_by k s)
 took_same link.Absent n s = (refl, refl)
 took_same link.Asked n s = (refl, refl)
 took_same link.Refused n s = (refl, refl)

@@ -15,7 +15,7 @@ use Rattle.conn.specs.Events.{collects_in, event_of}
 use Rattle.conn.specs.Holds.{Around, Between, GatedBefore, Holds, HoldsEnds, RunsFirst, Stands}
 use Rattle.conn.specs.Stages.{has_finished, in_event_of}
 use Rattle.conn.specs.declared.connection.Conn.{Conn}
-use Rattle.conn.specs.declared.ends.End.{End}
+use Rattle.conn.specs.declared.ends.ConnectionEnd.{ConnectionEnd}
 use Rattle.conn.specs.declared.ends.Ends.{Ends}
 use Rattle.conn.specs.declared.ends.Link.{Link}
 use Rattle.conn.specs.declared.ends.Link.TheVariants as link
@@ -113,7 +113,7 @@ same_held g side stage.OutOfMemory l c k = absurd k
 same_held g side (stage.Dropped n) l c k = absurd k
 
 -- what lies unread is that of the end
-server_unread : (k : Link) (s : End) → (has_stream k ≡ false → s ≡ fresh_end) → unread_at (first_some (last_made (connects_by k s)) (own_stream (server_by k s))) ≡ s.unread
+server_unread : (k : Link) (s : ConnectionEnd) → (has_stream k ≡ false → s ≡ fresh_end) → unread_at (first_some (last_made (connects_by k s)) (own_stream (server_by k s))) ≡ s.unread
 server_unread link.Absent s none = sym (ap (λ x. x.unread) (none refl))
 server_unread link.Asked s none = sym (ap (λ x. x.unread) (none refl))
 server_unread link.Refused s none = sym (ap (λ x. x.unread) (none refl))

@@ -16,7 +16,7 @@ use Rattle.conn_trace.specs.Setup as model
 use Rattle.conn_trace.specs.State.{Stream, TraceState, no_stream, no_answers}
 use Rattle.conn_trace.specs.Trace.{start}
 use Rattle.conn.specs.declared.connection.Conn.{Conn}
-use Rattle.conn.specs.declared.ends.End.{End}
+use Rattle.conn.specs.declared.ends.ConnectionEnd.{ConnectionEnd}
 use Rattle.conn.specs.declared.ends.Ends.{Ends}
 use Rattle.conn.specs.declared.ends.Link.{Link}
 use Rattle.conn.specs.declared.ends.Link.TheVariants as link
@@ -95,7 +95,7 @@ took_more Server n a = record a {
   counted_server = a.counted_server + n;
 }
 
-abbrev pub took_end : ℕ → End → End
+abbrev pub took_end : ℕ → ConnectionEnd → ConnectionEnd
 took_end n e = record e { queued = drop n e.queued }
 
 abbrev pub took_ends : Side → ℕ → Ends → Ends
@@ -117,7 +117,7 @@ abbrev pub reset_in : Side → Around → Around
 reset_in Client a = record a { took = record a.took { client = None } }
 reset_in Server a = record a { took = record a.took { servers = none_at_last a.took.servers } }
 
-abbrev pub reset_end : End → End
+abbrev pub reset_end : ConnectionEnd → ConnectionEnd
 reset_end e = record e { reset = true }
 
 abbrev pub reset_ends : Side → Ends → Ends

@@ -14,12 +14,12 @@ use Rattle.conn_trace.specs.State.{Stream, ServerSide, NoServer, Sought, There, 
 use Rattle.conn_trace.specs.State as model
 use Rattle.conn.specs.declared.ends.Behind as given
 use Rattle.conn.specs.declared.ends.Behind.TheVariants as behind
-use Rattle.conn.specs.declared.ends.End.{End}
+use Rattle.conn.specs.declared.ends.ConnectionEnd.{ConnectionEnd}
 use Rattle.conn.specs.declared.ends.Ends.{Ends}
 use Rattle.conn.specs.declared.ends.Link.{Link}
 use Rattle.conn.specs.declared.ends.Link.TheVariants as link
 
-abbrev pub fresh_end : End
+abbrev pub fresh_end : ConnectionEnd
 fresh_end = record { unread = []; ended = false; reset = false; queued = [] }
 
 abbrev pub fresh_ends : Ends
@@ -31,21 +31,21 @@ fresh_ends = record {
   edges = accepted_edges;
 }
 
-abbrev pub end_of : Side → Ends → End
+abbrev pub end_of : Side → Ends → ConnectionEnd
 end_of Client e = e.client
 end_of Server e = e.server
 
 -- what came of it and wasn't read, as a stream
-abbrev pub arrived : End → Stream
+abbrev pub arrived : ConnectionEnd → Stream
 arrived e = record { unread = e.unread; ended = e.ended }
 
 -- Once it was reset nothing is queued to it: all that it had, and all that is given to it later, is
 -- dropped.
-abbrev pub queue_of : End → List ℕ
+abbrev pub queue_of : ConnectionEnd → List ℕ
 queue_of e = if e.reset then [] else e.queued
 
 -- how many bytes a reset left untaken
-abbrev pub lost_at : End → ℕ
+abbrev pub lost_at : ConnectionEnd → ℕ
 lost_at e = if e.reset then length e.queued else 0
 
 -- what was queued to both and wasn't taken, also behind a reset, and to server connections before
@@ -53,19 +53,19 @@ abbrev pub queued_in : Ends → ℕ
 queued_in e = length e.client.queued + (length e.server.queued + e.lost)
 
 -- how many bytes may be moved on to it
-abbrev pub room_left : End → ℕ
+abbrev pub room_left : ConnectionEnd → ℕ
 room_left e = room_limit - length (queue_of e)
 
 -- no more of it is to be read
-abbrev pub is_done : End → Bool
+abbrev pub is_done : ConnectionEnd → Bool
 is_done e = e.ended && is_empty e.unread
 
 -- behind its end nothing comes of it
-abbrev pub heard_by : Bool → Coming → End → End
+abbrev pub heard_by : Bool → Coming → ConnectionEnd → ConnectionEnd
 heard_by true c e = e
 heard_by false c e = record e { unread = e.unread ++ c.bytes; ended = c.ended }
 
-abbrev pub heard_end : Coming → End → End
+abbrev pub heard_end : Coming → ConnectionEnd → ConnectionEnd
 heard_end c e = heard_by e.ended c e
 
 -- when a server connection is given up
@@ -120,7 +120,7 @@ hears_at Server c e =
     if has_stream e.link then record e { server = heard_end c e.server } else e
 
 -- What the link says of the trace: the server's side, and the connect answer that wasn't taken.
-abbrev pub server_by : Link → End → ServerSide
+abbrev pub server_by : Link → ConnectionEnd → ServerSide
 server_by link.Absent e = NoServer
 server_by link.Asked e = Sought
 server_by link.Refused e = Sought
@@ -136,7 +136,7 @@ link_by (link.Leaving b) = model.Left (behind_of b)
 link_by link.GivenUp = model.GivenUp
 link_by other = model.Asked
 
-abbrev pub connects_by : Link → End → List (Option Stream)
+abbrev pub connects_by : Link → ConnectionEnd → List (Option Stream)
 connects_by link.Refused e = None ∷ []
 connects_by link.Made e = Some (arrived e) ∷ []
 connects_by other e = []

@@ -25,7 +25,7 @@ use Rattle.conn_trace.specs.Gates.{other, room_limit}
 use Rattle.conn_trace.specs.Messages.{asked_version, is_interim}
 use Rattle.conn_trace.specs.SentBodies.{chunk_line}
 use Rattle.conn_trace.specs.Units.{Holds, after_bytes}
-use Rattle.conn.specs.declared.ends.End.{End}
+use Rattle.conn.specs.declared.ends.ConnectionEnd.{ConnectionEnd}
 use Rattle.conn.specs.declared.ends.Ends.{Ends}
 use Rattle.conn.specs.declared.forward.Standing.{Standing}
 use Rattle.conn.specs.declared.response.Answer.{Answer}
@@ -119,7 +119,7 @@ answer_by (Faulty f) came unread = answer.Fault f
 answer_by NoHead came unread = answer.NoHead
 
 -- what stands where a response is due
-abbrev pub answer_of : Option Request → End → Answer
+abbrev pub answer_of : Option Request → ConnectionEnd → Answer
 answer_of came e = answer_by (head_part e.unread e.ended) came e.unread
 
 -- the head of the response that these bytes are

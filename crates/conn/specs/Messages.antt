@@ -20,7 +20,7 @@ use Rattle.core_events.specs.declared.note.Note.TheVariants as note
 use Rattle.conn.specs.declared.connection.Conn.{Conn}
 use Rattle.conn.specs.declared.ends.Behind.{Behind}
 use Rattle.conn.specs.declared.ends.Behind.TheVariants as behind
-use Rattle.conn.specs.declared.ends.End as ends
+use Rattle.conn.specs.declared.ends.ConnectionEnd as ends
 use Rattle.conn.specs.declared.ends.Ends.{Ends}
 use Rattle.conn.specs.declared.ends.Link.TheVariants as link
 use Rattle.conn.specs.declared.events.At.TheVariants.{Response as HttpResponse}
@@ -52,7 +52,7 @@ pub record Becomes (st : Stage) (e : Ends) (old new : Conn) : Type 0 where
 -- ---- the server connection
 
 -- the server connection is used again, where it is whole
-abbrev pub is_whole : ends.End → Bool
+abbrev pub is_whole : ends.ConnectionEnd → Bool
 is_whole e = not (e.ended || e.reset)
 
 abbrev pub reuse_stage : (kept : Bool) → Stage

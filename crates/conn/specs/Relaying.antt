@@ -11,7 +11,7 @@ use Rattle.conn_trace.specs.Relay.{Incoming, is_done}
 use Rattle.core_events.specs.declared.note.Note.{Note}
 use Rattle.core_events.specs.declared.note.Note.TheVariants as note
 use Rattle.conn.specs.declared.connection.Conn.{Conn}
-use Rattle.conn.specs.declared.ends.End.{End}
+use Rattle.conn.specs.declared.ends.ConnectionEnd.{ConnectionEnd}
 use Rattle.conn.specs.declared.ends.Ends.{Ends}
 use Rattle.conn.specs.declared.relay.Relay.{Relay}
 use Rattle.conn.specs.declared.relay.Relay.TheVariants as relay
@@ -23,7 +23,7 @@ use Rattle.conn.specs.Events.{data_at}
 use Rattle.conn.specs.Hosts.{fired_host, released_host}
 
 -- how many bytes of one end may be passed on to the other
-abbrev pub to_pass : End → End → ℕ
+abbrev pub to_pass : ConnectionEnd → ConnectionEnd → ℕ
 to_pass from to = min (length from.unread) (room_left to)
 
 abbrev pub passing : Side → ℕ → Relay → Relay
@@ -31,13 +31,13 @@ passing side n later = if nat_lt 0 n then relay.Pass side n else later
 
 -- what is done with the bytes of a side: while its collect is stated none are passed on, and where
 -- it is met they are collected
-abbrev pub side_plan : Side → Asks → End → End → Relay → Relay
+abbrev pub side_plan : Side → Asks → ConnectionEnd → ConnectionEnd → Relay → Relay
 side_plan side NotAsked from to later = passing side (to_pass from to) later
 side_plan side (Stated n) from to later =
     if nat_le n (length from.unread) then relay.Fire side n else later
 
 -- the collect of a side and what came of it, as the trace has them
-abbrev pub incoming_of : Asks → End → Incoming
+abbrev pub incoming_of : Asks → ConnectionEnd → Incoming
 incoming_of asks e = record { asks = asks; stream = arrived e }
 
 abbrev pub plan_of : Side → NetState → Ends → Relay → Relay
@@ -61,10 +61,10 @@ abbrev pub passes_now : Side → ℕ → Ends → Type 0
 passes_now side n e = n ≤ length (end_of side e).unread
 
 -- the first n bytes of a side are read, and queued to the other
-abbrev pub read_end : ℕ → End → End
+abbrev pub read_end : ℕ → ConnectionEnd → ConnectionEnd
 read_end n e = record e { unread = drop n e.unread }
 
-abbrev pub queue_end : List ℕ → End → End
+abbrev pub queue_end : List ℕ → ConnectionEnd → ConnectionEnd
 queue_end bytes e = record e { queued = e.queued ++ bytes }
 
 abbrev pub moved : Side → ℕ → Ends → Ends

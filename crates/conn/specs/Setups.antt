@@ -6,7 +6,7 @@ use Rattle.tcl_trees.specs.TreeView.{node_view}
 use Rattle.event_order.specs.declared.event.EventName.{EventName}
 use Rattle.rule_loader.specs.Events.{event_place}
 use Rattle.rule_loader.specs.Handlers.{handlers_at}
-use Rattle.rule_loader.specs.declared.handler.Handler as loaded
+use Rattle.rule_loader.specs.declared.handler.EventHandler as loaded
 use Rattle.rule_loader.specs.declared.rule.Rule.{Rule}
 use Rattle.conn_trace.specs.Http.{the_heads}
 use Rattle.conn_trace.specs.Setup.{Handler, Setup}
@@ -21,7 +21,7 @@ handler_of h =
     record { rule = h.name.now; procedures = procs_view h.procs.now; body = node_view h.body.now }
 
 -- a body that a rule has for an event
-abbrev pub handler_view : Rule → loaded.Handler → Handler
+abbrev pub handler_view : Rule → loaded.EventHandler → Handler
 handler_view r h =
     record { rule = r.name; procedures = procs_view r.procs; body = node_view h.body }
 

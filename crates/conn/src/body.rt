@@ -9,7 +9,7 @@ use tcl_vars::Vars;
 
 /// A body by steps, and whether its next step may be made.
 #[derive(Drop)]
-pub struct Body {
+pub struct RunningBody {
     pub(crate) machine: Machine,
     /// The next step may be made.
     pub(crate) runs: bool,
@@ -22,7 +22,7 @@ pub struct Body {
 ghost use Rattle.std.specs.Prelude.{◌≡◌, true};
 ghost use Rattle.conn.specs.Modes.{is_running, is_asked};
 
-impl Body {
+impl RunningBody {
     ghost use Rattle.std.specs.Prelude.{◌+◌, ◌-◌, ◌<◌, ◌≤◌, false, List, Some, OnOk, IfOk};
     ghost use Rattle.px_bytes.specs.Host.{Effect};
     ghost use Rattle.tcl_trees.specs.Procedures.{procs_view};
@@ -32,10 +32,10 @@ impl Body {
     ghost use Rattle.conn.specs.Bodies.{Fresh, Heard, IsIdle, SaidIs};
 
     /// A body that doesn't run.
-    pub fn new(alloc: Global) -> Body
+    pub fn new(alloc: Global) -> RunningBody
         ensures { IsIdle result }
     {
-        Body {
+        RunningBody {
             machine: Machine::start(alloc, 0),
             runs: false,
             asks: false,

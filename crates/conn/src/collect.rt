@@ -7,7 +7,7 @@ ghost use Rattle.conn.specs.Ends.{end_of};
 ghost use Rattle.conn.specs.Relaying.{Fires, passes_now};
 
 use crate::connection::Conn;
-use crate::ends::{End, ROOM};
+use crate::ends::{ConnectionEnd, ROOM};
 use crate::events::At;
 use crate::setup::Setup;
 use crate::stage::Stage;
@@ -97,7 +97,7 @@ impl Conn {
 }
 
 /// The bytes of a stated collect, where it is met.
-fn meets(asks: Asks, from: &End) -> Option<usize>
+fn meets(asks: Asks, from: &ConnectionEnd) -> Option<usize>
     ensures { result ≡ meets asks from.now.unread }
 {
     match asks {

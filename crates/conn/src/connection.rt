@@ -11,7 +11,7 @@ ghost use Rattle.conn.specs.Ends.{end_of, fresh_ends};
 ghost use Rattle.conn.specs.Queues.{queue_in};
 ghost use Rattle.conn.specs.Stages.{has_finished, is_asking, selects};
 
-use crate::body::Body;
+use crate::body::RunningBody;
 use crate::ends::{Ends, Link, UNREAD_LIMIT};
 use crate::events::At;
 use crate::host::RuleHost;
@@ -28,7 +28,7 @@ use tcl_vars::Vars;
 #[derive(Drop)]
 pub struct Conn {
     pub(crate) stage: Stage,
-    pub(crate) body: Body,
+    pub(crate) body: RunningBody,
     pub(crate) vars: Vars,
     pub(crate) host: RuleHost,
     pub(crate) ends: Ends,
@@ -46,7 +46,7 @@ impl Conn {
         let host = RuleHost::new(alloc, net, setup.http);
         Ok(Conn {
             stage: setup.enter(At::Accepted, Link::Absent, &host),
-            body: Body::new(alloc),
+            body: RunningBody::new(alloc),
             vars: Vars::new(alloc),
             host,
             ends: Ends::new(alloc),

@@ -24,7 +24,7 @@ pub(crate) const UNREAD_LIMIT: usize = 65_536;
 /// An end of a connection: what came of it and wasn't read, whether no more follows, and what is
 /// queued to it.
 #[derive(Drop)]
-pub struct End {
+pub struct ConnectionEnd {
     pub(crate) unread: Unread,
     pub(crate) ended: bool,
     /// Whether it was reset. What is queued to it then is dropped.
@@ -32,11 +32,11 @@ pub struct End {
     pub(crate) queued: Queue,
 }
 
-impl End {
-    pub(crate) fn new(alloc: Global) -> End
+impl ConnectionEnd {
+    pub(crate) fn new(alloc: Global) -> ConnectionEnd
         ensures { result ≡ fresh_end }
     {
-        End {
+        ConnectionEnd {
             unread: Unread::new(alloc),
             ended: false,
             reset: false,
@@ -195,8 +195,8 @@ impl Link {
 /// of them.
 #[derive(Drop)]
 pub struct Ends {
-    pub(crate) client: End,
-    pub(crate) server: End,
+    pub(crate) client: ConnectionEnd,
+    pub(crate) server: ConnectionEnd,
     /// How many bytes the server connections before this one never took.
     pub(crate) lost: u32,
     pub(crate) link: Link,
@@ -209,8 +209,8 @@ impl Ends {
         ensures { result ≡ fresh_ends }
     {
         Ends {
-            client: End::new(alloc),
-            server: End::new(alloc),
+            client: ConnectionEnd::new(alloc),
+            server: ConnectionEnd::new(alloc),
             lost: 0,
             link: Link::Absent,
             edges: Edges {
@@ -256,7 +256,7 @@ impl Ends {
         }
     }
 
-    pub(crate) fn end_of(&self, side: Side) -> &End
+    pub(crate) fn end_of(&self, side: Side) -> &ConnectionEnd
         ensures { result.now ≡ end_of side self.now }
     {
         match side {
@@ -358,7 +358,7 @@ impl Ends {
             return Err(Memory);
         };
         self.lost = lost;
-        self.server = End::new(alloc);
+        self.server = ConnectionEnd::new(alloc);
         self.link = Link::Asked;
         self.edges.server = Edge::new(EdgeState::Connecting);
         Ok(())

@@ -35,9 +35,9 @@ mod uncaught;
 mod unread;
 mod without_memory;
 
-pub use body::Body;
+pub use body::RunningBody;
 pub use connection::Conn;
-pub use ends::{Behind, End, Ends, Link};
+pub use ends::{Behind, ConnectionEnd, Ends, Link};
 pub use events::At;
 pub use host::{RuleHost, host_command};
 pub use laws::{calls_continue, connection_continues};

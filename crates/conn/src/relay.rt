@@ -8,7 +8,7 @@ ghost use Rattle.conn.specs.Relaying.{incoming_of, moved, passes_now, plan_of, r
 ghost use Rattle.conn.specs.Relaying.{side_plan, to_pass};
 
 use crate::connection::Conn;
-use crate::ends::{End, Ends, ROOM};
+use crate::ends::{ConnectionEnd, Ends, ROOM};
 use crate::setup::Setup;
 use crate::stage::{Finish, Stage};
 use crate::turn::Act;
@@ -108,7 +108,7 @@ fn other(side: Side) -> Side
 }
 
 // No more of a side is passed on or collected.
-fn is_done(asks: Asks, from: &End) -> bool
+fn is_done(asks: Asks, from: &ConnectionEnd) -> bool
     ensures { result ≡ is_done (incoming_of asks from.now) }
 {
     match asks {
@@ -118,7 +118,13 @@ fn is_done(asks: Asks, from: &End) -> bool
 }
 
 // What is done with the bytes of a side, or later.
-fn side_plan(side: Side, asks: Asks, from: &End, to: &End, later: Relay) -> Relay
+fn side_plan(
+    side: Side,
+    asks: Asks,
+    from: &ConnectionEnd,
+    to: &ConnectionEnd,
+    later: Relay,
+) -> Relay
     ensures { result ≡ side_plan side asks from.now to.now later }
 {
     match asks {
@@ -146,14 +152,14 @@ impl Ends {
 }
 
 // How many bytes of one end may be passed on to the other.
-fn passable(from: &End, to: &End) -> usize
+fn passable(from: &ConnectionEnd, to: &ConnectionEnd) -> usize
     ensures { result ≡ to_pass from.now to.now }
 {
     from.unread.len().min(to.room())
 }
 
 // All that came goes to an end that waits for nothing without a copy.
-fn pass(from: &mut End, to: &mut End, n: usize) -> M<()>
+fn pass(from: &mut ConnectionEnd, to: &mut ConnectionEnd, n: usize) -> M<()>
     requires { n ≤ length from.old.unread }
     ensures from { OnOk result (from.new ≡ record from.old { unread = drop n from.old.unread }) }
     ensures to { OnOk result (to.new

@@ -8,7 +8,7 @@ ghost use Rattle.conn.specs.Messages.{ReadsResponse, StatusBy};
 ghost use Rattle.conn.specs.Stages.{http_in};
 
 use crate::connection::Conn;
-use crate::ends::{End, Ends};
+use crate::ends::{ConnectionEnd, Ends};
 use crate::events::At;
 use crate::setup::Setup;
 use crate::stage::Finish;
@@ -33,7 +33,7 @@ pub(crate) enum Answer {
     NoHead,
 }
 
-impl End {
+impl ConnectionEnd {
     // What stands where a response to this request is due.
     fn answer(&mut self, alloc: Global, came: &Option<Request>) -> M<Answer>
         ensures ok { IfOk result (λ answer. answer ≡ answer_of came.now self.old) }

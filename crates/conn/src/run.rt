@@ -1,10 +1,11 @@
 // A slice of a connection.
 
-ghost use Rattle.std.specs.Prelude.{◌+◌, ◌≡◌, ◌-◌, ◌≤◌, ◌++◌, List, length};
+ghost use Rattle.std.specs.Prelude.{◌+◌, ◌≡◌, ◌-◌, ◌≤◌, ◌++◌, List, length, true};
 ghost use Rattle.core_events.specs.Edges.{edges_noted};
 ghost use Rattle.core_events.specs.declared.note.Note.{Note};
 ghost use Rattle.conn.specs.Ends.{queued_in};
 ghost use Rattle.conn.specs.Runs.{DropsQueued, IsWhole, Rested, Runs, TellsDropped};
+ghost use Rattle.conn.specs.RunsItems.{asks};
 
 use crate::connection::Conn;
 use crate::setup::Setup;
@@ -49,6 +50,8 @@ impl Conn {
             → DropsQueued number queued self.old self.new notes.old.items after result }
         ensures dropped { TellsDropped result number self.new notes.new.items }
         ensures few_notes { length notes.new.items ≤ length notes.old.items + 68 }
+        ensures few_asked { asks result ≡ true
+            → (1 ≤ notes.new.spare) × (length notes.new.items ≤ length notes.old.items + 67) }
     {
         if let Stage::OutOfMemory = self.stage {
             let dropped = self.ends.queued();

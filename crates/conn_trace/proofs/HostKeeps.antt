@@ -24,7 +24,7 @@ use Rattle.irule_net.specs.FaultText.{not_here}
 use Rattle.irule_net.specs.Forms.{class_form, clock_form, form_of, payload_form, reselect_form, server_form, without_http}
 use Rattle.irule_net.specs.Laws.{Fits, left_by, made_by, sent_to}
 use Rattle.session_table.specs.Requests.{checked}
-use Rattle.irule_net.specs.Requests.{Asked, class_asked, collect_asked, count_in, log_asked, members_asked, node_asked, part_asked, pool_asked, replace_asked, request_of, reselect_node_asked, reselect_pool_asked, respond_asked, table_asked}
+use Rattle.irule_net.specs.Requests.{Asked, after_asked, class_asked, collect_asked, count_in, log_asked, members_asked, node_asked, part_asked, pool_asked, replace_asked, request_of, reselect_node_asked, reselect_pool_asked, respond_asked, table_asked}
 use Rattle.irule_net.specs.State.{asked_bytes, collected, gone, holds, other, respond_limit, side_of, with_collected}
 use Rattle.irule_net.specs.Steps.{Step, collects, ends, releases, replaced, replaces, reselect_limit, reselects, responds}
 use Rattle.irule_net.specs.Targets.{node_target, pool_named, pool_target}
@@ -220,6 +220,11 @@ module _ (groups : Groups) (event : EventName) (s : NetState) (words : List (Lis
   members_quiet (name ∷ []) = one_test {A = Unit {0}} P (pool_named groups.pools name) _ (λ there. does (asks_quiet s _)) bad
   members_quiet (name ∷ (more ∷ ws)) = bad _
 
+  after_quiet : (ws : List (List ℕ)) → P (after_asked ws)
+  after_quiet [] = bad _
+  after_quiet (word ∷ []) = two_tests {A = ℤ} {B = ℕ} P (number_of word) count_in _ (λ n. does (asks_quiet s _)) bad
+  after_quiet (word ∷ (more ∷ ws)) = bad _
+
   -- where a server comes from
   target_quiet : (target : Target) → Quiet s (Gives [] (record s { target = target }) [])
   target_quiet target = record { client = refl; server = refl; loose = refl; sends = λ to. refl }
@@ -390,6 +395,7 @@ module _ (groups : Groups) (event : EventName) (s : NetState) (words : List (Lis
   command_leaves command.ActiveMembers there = silent (fitting P _ (allowed command.ActiveMembers) _ _ _ _ (members_quiet words) bad)
   command_leaves command.Table there = silent (allowing P _ (allowed command.Table) _ _ table_quiet bad)
   command_leaves command.Clock there = silent (clock_quiet words)
+  command_leaves command.After there = silent (fitting P _ (allowed command.After) _ _ _ _ (after_quiet words) bad)
   command_leaves command.Pool there = silent (fitting P _ (allowed command.Pool) _ _ _ _ pool_quiet bad)
   command_leaves command.Node there = silent (fitting P _ (allowed command.Node) _ _ _ _ node_quiet bad)
   command_leaves command.LbReselect there = silent (reselect_quiet words)

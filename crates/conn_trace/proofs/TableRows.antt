@@ -2,7 +2,7 @@
 use Rattle.std.proofs.Common.{◌≡◌, refl, ℕ, List, [], ◌∷◌, map, true, false, Some, None, codes}
 use Rattle.std.specs.Fmt.{digits}
 use Rattle.px_bytes.specs.FaultText.{no_command}
-use Rattle.px_bytes.specs.Host.{Gives, Faults, Logged as Noted}
+use Rattle.px_bytes.specs.Host.{Gives, Faults, Asks, Logged as Noted}
 use Rattle.px_bytes.specs.declared.addr.Side.TheVariants.{Client, Server}
 use Rattle.px_bytes.specs.declared.fault.FaultKind.TheVariants.{TooLong}
 use Rattle.tcl_vars.specs.Scopes.{no_level}
@@ -65,7 +65,7 @@ cut_rows :
     × (cut_takes false Idle (Some (ForReply [])) ≡ false) × (cut_takes false Idle (Some ForReuse) ≡ false)
 cut_rows = (refl, refl, refl, refl, refl, refl, refl, refl)
 
--- what commands give: told of the client, of a group that isn't there, in an event that hasn't the command, and those that aren't there yet
+-- what commands give: told of the client, of a group that isn't there, in an event that hasn't the command, at a shared call, and those that aren't there without HTTP
 abbrev accepted : HostState
 accepted = first_host relay_setup
 
@@ -84,10 +84,11 @@ command_rows :
     × (commands no_groups closing_host (codes "TCP::respond" ∷ codes "a" ∷ []) ≡ Faults (not_here (codes "TCP::respond")) closing_host [])
     × (commands no_groups accepted (codes "TCP::collect" ∷ codes "1" ∷ []) ≡ Gives [] collecting [])
     × (commands no_groups accepted (codes "LB::detach" ∷ []) ≡ Faults (not_here (codes "LB::detach")) accepted [])
-    × (commands no_groups accepted (codes "after" ∷ codes "5" ∷ []) ≡ Faults (no_command (codes "after")) accepted [])
+    × (commands no_groups accepted (codes "after" ∷ codes "5" ∷ []) ≡ Asks (codes "after" ∷ codes "5" ∷ []) accepted)
+    × (commands no_groups accepted (codes "HTTP::uri" ∷ []) ≡ Faults (no_command (codes "HTTP::uri")) accepted [])
     × (commands no_groups accepted [] ≡ Faults (no_command []) accepted [])
 unfolding commands digits
-command_rows = (refl, refl, refl, refl, refl, refl, refl, refl, refl, refl)
+command_rows = (refl, refl, refl, refl, refl, refl, refl, refl, refl, refl, refl)
 
 -- a body of an event runs, where the host's state is so
 abbrev answers : EventName → List Handler

@@ -13,7 +13,8 @@ use Rattle.event_order.specs.declared.command.HostCommand.TheVariants.{ActiveMem
 use Rattle.event_order.specs.declared.command.HostCommand.TheVariants.{LbDetach, LbReselect, Reject, Drop}
 use Rattle.event_order.specs.declared.command.HostCommand.TheVariants.{TcpClose, TcpCollect}
 use Rattle.event_order.specs.declared.command.HostCommand.TheVariants.{TcpRelease, TcpPayload}
-use Rattle.event_order.specs.declared.command.HostCommand.TheVariants.{TcpClientPort, LbServer, Table, Clock}
+use Rattle.event_order.specs.declared.command.HostCommand.TheVariants.{TcpClientPort, LbServer}
+use Rattle.event_order.specs.declared.command.HostCommand.TheVariants.{Table, Clock, After}
 use Rattle.event_order.specs.declared.event.EventName.{EventName}
 use Rattle.event_order.specs.declared.event.EventName.TheVariants.{ClientAccepted}
 use Rattle.irule_net.specs.Checks.{command_of}
@@ -65,7 +66,7 @@ with_collect side c h = record h { net = with_collected side c h.net }
 abbrev pub with_loose : List ℕ → HostState → HostState
 with_loose loose h = record h { net = record h.net { loose = loose } }
 
--- The commands that there are today. Of those that ask a shared call `after` isn't.
+-- The commands that there are today.
 abbrev pub is_there : HostCommand → Bool
 is_there Log = true
 is_there Class = true
@@ -77,6 +78,7 @@ is_there TcpRespond = true
 is_there ActiveMembers = true
 is_there Table = true
 is_there Clock = true
+is_there After = true
 is_there Pool = true
 is_there Node = true
 is_there LbReselect = true

@@ -36,6 +36,7 @@ fn is_command_there(command: HostCommand) -> bool
         | HostCommand::ActiveMembers
         | HostCommand::Table
         | HostCommand::Clock
+        | HostCommand::After
         | HostCommand::Pool
         | HostCommand::Node
         | HostCommand::LbReselect

@@ -11,7 +11,7 @@ use px_bytes::{Addr, Side};
 
 /// Connections and the rules that they run, moved by events. Each question has its answer in the
 /// face. An event that a question allows isn't refused.
-pub trait Core {
+pub trait EventCore {
     /// The questions, and what an event does.
     ghost face: { Face Self };
 

@@ -14,6 +14,6 @@ pub use bad_event::BadEvent;
 pub use edges::{Edge, EdgeState, Edges};
 pub use event::Event;
 pub use event_kind::EventKind;
-pub use face::Core;
+pub use face::EventCore;
 pub use input::Input;
 pub use note::{Cause, CutReason, Note, Notes};

@@ -1,5 +1,5 @@
 -- A length as it is written.
-use Rattle.std.proofs.Common.{◌≡◌, refl, ap, ap₂, ◌∙◌, ℕ, ◌^◌, ◌<◌, true, not, ◌&&◌, List, [], ◌∷◌, length, reverse, arith}
+use Rattle.std.proofs.Common.{◌≡◌, refl, ap, ap₂, ◌∙◌, ℕ, ◌^◌, ◌<◌, Bool, true, not, ◌&&◌, List, [], ◌∷◌, length, reverse, arith}
 use Rattle.std.specs.Char.{digit_value, is_ascii_digit}
 use Rattle.std.specs.Fmt.{decimal}
 use Rattle.std.specs.List.{list_all}
@@ -24,16 +24,21 @@ digits_are : (ds : List ℕ) → AllDigits 10 ds → list_all is_ascii_digit ds 
 digits_are [] all = refl
 digits_are (d ∷ ds) all = ap₂ (λ s t. s && t) (digit_is d all.0) (digits_are ds all.1)
 
-begins : (ds : List ℕ) → list_all is_ascii_digit ds ≡ true → begins_visible ds ≡ true
-begins [] all = refl
-begins (d ∷ ds) all = digit_visible d (and_parts (is_ascii_digit d) (list_all is_ascii_digit ds) all).0
+-- bytes that pass such a test have none around them
+module _ (test : ℕ → Bool) (visible : (b : ℕ) → test b ≡ true → not (is_ows b) ≡ true) where
+  begins : (bs : List ℕ) → list_all test bs ≡ true → begins_visible bs ≡ true
+  begins [] all = refl
+  begins (b ∷ bs) all = visible b (and_parts (test b) (list_all test bs) all).0
 
-back : (ds : List ℕ) → list_all is_ascii_digit ds ≡ true → list_all is_ascii_digit (reverse ds) ≡ true
-back [] all = refl
-back (d ∷ ds) all =
-    let both = and_parts (is_ascii_digit d) (list_all is_ascii_digit ds) all in
-    ap (list_all is_ascii_digit) (reverse-append (d ∷ []) ds) ∙ list_all-append is_ascii_digit (reverse ds) (d ∷ [])
-    ∙ ap₂ (λ s t. s && t) (back ds both.1) (ap₂ (λ s t. s && t) both.0 refl)
+  back : (bs : List ℕ) → list_all test bs ≡ true → list_all test (reverse bs) ≡ true
+  back [] all = refl
+  back (b ∷ bs) all =
+      let both = and_parts (test b) (list_all test bs) all in
+      ap (list_all test) (reverse-append (b ∷ []) bs) ∙ list_all-append test (reverse bs) (b ∷ [])
+      ∙ ap₂ (λ s t. s && t) (back bs both.1) (ap₂ (λ s t. s && t) both.0 refl)
+
+  pub all_trimmed : (bs : List ℕ) → list_all test bs ≡ true → is_trimmed bs ≡ true
+  all_trimmed bs all = ap₂ (λ s t. s && t) (begins bs all) (begins (reverse bs) (back bs all))
 
 -- ---- a length below 10^18
 
@@ -49,7 +54,7 @@ is_length n small =
     let digits = digits_are (decimal n) numeral.0.1 in
     let short = length-decimal-le 18 n (omega arith) small fits in
     record {
-      trimmed = ap₂ (λ s t. s && t) (begins (decimal n) digits) (begins (reverse (decimal n)) (back (decimal n) digits));
+      trimmed = all_trimmed is_ascii_digit digit_visible (decimal n) digits;
       size = ap₂ (λ s t. s && t) (lt-ltb 0 (length (decimal n)) numeral.0.0)
           (ap₂ (λ s t. s && t) (le-leb (length (decimal n)) 18 (omega (arith, short))) digits);
       value = numeral.1;

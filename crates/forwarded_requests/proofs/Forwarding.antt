@@ -15,8 +15,9 @@ use Rattle.conn_trace.specs.SentBodies.{opens, payload_part}
 use Rattle.conn_trace.specs.Setup.{Setup}
 use Rattle.conn_trace.specs.State.{Phase, Forwarding, Heading, AtResponse, Stream, TraceState}
 use Rattle.forwarded_requests.specs.Bodies.{IsBody}
-use Rattle.forwarded_requests.specs.Forwarded.{Comes, ForwardedIsOne, Forwards, IsFramed, gathered_text, is_forwarding}
+use Rattle.forwarded_requests.specs.Forwarded.{Comes, ForwardedIsOne, Forwards, HasShortLength, IsFramed, gathered_text, is_forwarding}
 use Rattle.forwarded_requests.specs.Requests.{IsRequest}
+use Rattle.forwarded_requests.proofs.Framed.{heads_framed}
 use Rattle.forwarded_requests.proofs.Going.{is_on}
 use Rattle.forwarded_requests.proofs.Sent.{Passes, passes}
 use Rattle.forwarded_requests.proofs.Whole.{Behind, HeadWent, fits, head_went, request_is}
@@ -57,7 +58,7 @@ five head part out items more is =
     ap (λ t. (t ++ out) ++ more) is ∙ (let same : ((head ++ part) ++ out) ++ more ≡ head ++ (part ++ (out ++ more)) = simp append_assoc in same)
 
 module _ (g : Setup) (l m : TraceState) (head : RequestHead) (heads : g.heads ≡ the_heads) (there : (http_of l.host).request ≡ Some head)
-    (framed : IsFramed (http_of l.host) head) (heading : l.phase ≡ Heading Client) where
+    (framed : IsFramed (http_of l.host) head) (short : HasShortLength (http_of l.host)) (heading : l.phase ≡ Heading Client) where
   abbrev h : Http
   h = http_of l.host
 
@@ -78,7 +79,7 @@ module _ (g : Setup) (l m : TraceState) (head : RequestHead) (heads : g.heads �
       → ((more : List ℕ) → Behind h.whole h.reader (opens h) (server_output l.sent.number items ++ more) bytes more) → Gives (i ∷ items) bytes
   gives i items bytes sends behind more =
       subst (λ t. IsRequest t (bare_request (request_out h head)) (gathered_text h.gathered h.payload ++ bytes) more) (sym (output i items more sends))
-      (request_is h head framed (server_output l.sent.number items ++ more) bytes more (behind more))
+      (request_is h head framed (server_output l.sent.number items ++ more) bytes more (behind more) short)
 
   at_once : (i : Item) → m.phase ≡ AtResponse → HeadWent l i m (head_bytes g Client h) → (bytes : List ℕ) × Comes h.whole h.reader l m bytes × Gives (i ∷ []) bytes
   at_once i response went =
@@ -101,9 +102,11 @@ module _ (g : Setup) (l m : TraceState) (head : RequestHead) (heads : g.heads �
       )
 
 pub forwarded_one : ForwardedIsOne
-forwarded_one g l m [] head heads there framed heading forwards = absurd forwards
-forwarded_one g l m (i ∷ []) head heads there framed heading forwards =
-    at_once g l m head heads there framed heading i forwards.1 (head_went g l heading i m (ap is_on forwards.1) forwards.0)
-forwarded_one g l m (i ∷ j ∷ items) head heads there framed heading forwards =
-    in_parts g l m head heads there framed heading i j items forwards.0 forwards.2
+forwarded_one g client answers before l m [] head heads is heading there short forwards = absurd forwards
+forwarded_one g client answers before l m (i ∷ []) head heads is heading there short forwards =
+    let framed = heads_framed g client answers before l head heads is heading there in
+    at_once g l m head heads there framed short heading i forwards.1 (head_went g l heading i m (ap is_on forwards.1) forwards.0)
+forwarded_one g client answers before l m (i ∷ j ∷ items) head heads is heading there short forwards =
+    let framed = heads_framed g client answers before l head heads is heading there in
+    in_parts g l m head heads there framed short heading i j items forwards.0 forwards.2
     (head_went g l heading i forwards.0 (forwarding_on forwards.0.phase forwards.2) forwards.1) forwards.3

@@ -1,13 +1,23 @@
+pub mod ChoicesFramed
 pub mod Decimals
 pub mod Forwarding
+pub mod Framed
 pub mod Framings
+pub mod GatherFramed
 pub mod Going
 pub mod HexBack
+pub mod HostFramed
+pub mod ItemsFramed
 pub mod LineSizes
 pub mod OneRequest
 pub mod OutFraming
 pub mod PassedFields
+pub mod PhasesFramed
+pub mod PlacesFramed
 pub mod ReadBodies
+pub mod ReadHeads
+pub mod ReceivedHeads
+mod Rows
 pub mod Sent
 pub mod SentParts
 pub mod Whole

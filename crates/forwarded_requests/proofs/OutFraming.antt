@@ -19,11 +19,12 @@ use Rattle.http_heads.proofs.Trimmed.{trim_same}
 use Rattle.http_frames.specs.Bodies.{coding_of, fields_body, framed, is_size, request_body, size_of, values}
 use Rattle.http_frames.specs.declared.state.Body.{Body}
 use Rattle.http_frames.specs.declared.state.Body.TheVariants as body
+use Rattle.http_frames.specs.declared.state.BodyState.TheVariants as state
 use Rattle.http_frames.proofs.OneLength.{no_length, one_length}
 use Rattle.irule_http.specs.Sent.{changed_length, length_limit, request_out}
 use Rattle.irule_http.specs.declared.state.Http.{Http}
 use Rattle.conn_trace.specs.Http.{gathered_so}
-use Rattle.forwarded_requests.specs.Forwarded.{IsFramed, Stands, gathered_text}
+use Rattle.forwarded_requests.specs.Forwarded.{HasShortLength, IsFramed, Stands, gathered_text, left_in}
 use Rattle.forwarded_requests.proofs.Decimals.{is_length}
 use Rattle.forwarded_requests.proofs.Framings.{Coded, Length, Nothing, Said, said}
 use Rattle.forwarded_requests.proofs.PassedFields.{coding, codings_out, first, out, size, sizes_out, told_out}
@@ -69,7 +70,8 @@ module _ (version : Version) (fields : List Pair) (f : Pair) (more : List Pair) 
 
   -- by what was gathered, and what goes on of it
   length_out : (total : ℕ) (gathered : Option ℕ) (payload : List ℕ) (left : ℕ) → are_trimmed (named size fields) ≡ true → is_size f.1 ≡ true
-      → total ≡ digits_value 10 f.1 → gathered_so gathered + left ≡ total → left + length payload < 10 ^ 18
+      → total ≡ digits_value 10 f.1 → gathered_so gathered + left ≡ total
+      → left + length (gathered_text gathered payload) < 10 ^ 18
       → fields_body version (out (changed_length (body.Length total) gathered payload) fields) body.None ≡ Ok (body.Length (length (gathered_text gathered payload) + left))
   length_out total None payload left trimmed is so all small =
       same_length trimmed is ∙ ap (λ n. Ok (body.Length n)) (omega (arith, so, all))
@@ -86,7 +88,13 @@ abbrev pub left_of : (b : Body) (h : Http) → Stands b h → ℕ
 left_of (body.Length total) h is = is.0
 left_of b h is = 0
 
-module _ (h : Http) (head : RequestHead) (codings : are_trimmed (named coding head.fields) ≡ true) (sizes : are_trimmed (named size head.fields) ≡ true) where
+-- how much is left, by the reader
+still_left : (h : Http) (left : ℕ) → h.reader ≡ state.Left left → HasShortLength h
+    → left + length (gathered_text h.gathered h.payload) < 10 ^ 18
+still_left h left is short = subst (λ s. left_in s + length (gathered_text h.gathered h.payload) < 10 ^ 18) is short
+
+module _ (h : Http) (head : RequestHead) (short : HasShortLength h)
+    (codings : are_trimmed (named coding head.fields) ≡ true) (sizes : are_trimmed (named size head.fields) ≡ true) where
   out_by : (b : Body) (stands : Stands b h) → Said (named coding head.fields) (named size head.fields) head.version b
       → fields_body head.version (out (changed_length b h.gathered h.payload) head.fields) body.None ≡ Ok (body_out b h (left_of b h stands))
   out_by body.None stands (Nothing uncoded unsized) =
@@ -94,7 +102,8 @@ module _ (h : Http) (head : RequestHead) (codings : are_trimmed (named coding he
       (values_by coding (out None head.fields) [] (codings_out None head.fields codings ∙ uncoded))
       (values_by size (out None head.fields) [] (sizes_out None head.fields ∙ ap (λ fs. map bare (map (with_length None) (first fs))) unsized))
   out_by (body.Length total) stands (Length f more uncoded sized is) =
-      length_out head.version head.fields f more uncoded sized total h.gathered h.payload stands.0 sizes is refl stands.2 stands.4
+      length_out head.version head.fields f more uncoded sized total h.gathered h.payload stands.0 sizes is refl stands.2
+      (still_left h stands.0 stands.1 short)
   out_by body.Chunked stands (Coded f coded unsized later is) =
       ap (λ v. fields_body v (out None head.fields) body.None) later
       ∙ ap₂ (λ c s. framed Http11 (coding_of c) (size_of s) body.None)
@@ -103,6 +112,8 @@ module _ (h : Http) (head : RequestHead) (codings : are_trimmed (named coding he
       ∙ ap (λ k. framed Http11 k (size_of []) body.None) (cond-true (bytes_eq (lowered f.1) (lowered (codes "chunked"))) _ _ is)
   out_by body.ToEnd stands _ = elim stands [ ]
 
-pub framed_out : (h : Http) (head : RequestHead) (is : IsFramed h head)
+pub framed_out : (h : Http) (head : RequestHead) (is : IsFramed h head) → HasShortLength h
     → request_body (bare_request (request_out h head)) ≡ Ok (body_out h.body h (left_of h.body h is.stands))
-framed_out h head is = out_by h head is.codings is.sizes h.body is.stands (said head.version (named coding head.fields) (named size head.fields) h.body is.framed)
+framed_out h head is short =
+    out_by h head short is.codings is.sizes h.body is.stands
+    (said head.version (named coding head.fields) (named size head.fields) h.body is.framed)

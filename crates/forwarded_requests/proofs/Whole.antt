@@ -25,7 +25,7 @@ use Rattle.conn_trace.specs.Setup.{Setup}
 use Rattle.conn_trace.specs.State.{Heading, TraceState, Does}
 use Rattle.conn_trace.specs.Trace.{counted, next_item, phase_next}
 use Rattle.forwarded_requests.specs.Bodies.{IsBody}
-use Rattle.forwarded_requests.specs.Forwarded.{ChunksStand, InChunks, IsFramed, Stands, gathered_text}
+use Rattle.forwarded_requests.specs.Forwarded.{ChunksStand, HasShortLength, InChunks, IsFramed, Stands, gathered_text}
 use Rattle.forwarded_requests.specs.Requests.{IsRequest}
 use Rattle.forwarded_requests.proofs.Going.{is_on, item_of, plain_on, state_of, to_itself}
 use Rattle.forwarded_requests.proofs.LineSizes.{IsSize}
@@ -177,9 +177,11 @@ module _ (h : Http) (head : RequestHead) (is : IsFramed h head) where
         subst (λ t. IsBody (beginning (body_out h.body h left)) (t ++ out) false (gathered_text h.gathered h.payload ++ bytes) rest)
         (sym (part_is h h.gathered (is_chunked h.body))) (body_by h.body is.stands)
 
-    pub request_is : IsRequest (written_request (request_out h head) ++ (payload_part h ++ out)) (bare_request (request_out h head)) (gathered_text h.gathered h.payload ++ bytes) rest
+    pub request_is : HasShortLength h
+        → IsRequest (written_request (request_out h head) ++ (payload_part h ++ out)) (bare_request (request_out h head))
+        (gathered_text h.gathered h.payload ++ bytes) rest
     unfolding left
-    request_is =
+    request_is short =
         let r = request_out h head in
         let back = request_comes_back r is.is.method is.is.target (request_fields (changed_length h.body h.gathered h.payload) head is.is.fields) in
         record {
@@ -189,7 +191,7 @@ module _ (h : Http) (head : RequestHead) (is : IsFramed h head) where
           reads = (back.1.0.0, ap (λ t. t ++ (payload_part h ++ out)) (back.1.0.1 ∙ append-nil (print_request back.0)));
           few = back.1.1;
           sees = back.2;
-          framed = framed_out h head is;
+          framed = framed_out h head is short;
           body = body_is;
         }
 

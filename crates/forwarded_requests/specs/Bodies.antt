@@ -1,5 +1,7 @@
--- The bytes of a body that stands at the front of a stream, by the grammar: RFC 9112, 6 and 7.1, in this profile.
-use Rattle.std.specs.Prelude.{◌≡◌, ℕ, zero, suc, Bool, List, [], ◌++◌, take, drop, Option, Some, None}
+-- The bytes of a body that stands at the front of a stream, by the grammar: RFC 9112, 6 and 7.1, in
+-- this profile.
+use Rattle.std.specs.Prelude.{◌≡◌, ℕ, zero, suc, Bool, List, [], ◌++◌, take, drop}
+use Rattle.std.specs.Prelude.{Option, Some, None}
 use Rattle.http_frames.specs.Parts.{Part, Byte, Chunk, End, Pending, Bad, part_of}
 use Rattle.http_frames.specs.declared.state.BodyState.{BodyState}
 use Rattle.http_frames.specs.declared.state.BodyState.TheVariants as state
@@ -27,7 +29,7 @@ read_from (suc n) s held ended (End size) = Some ([], drop size held)
 read_from (suc n) s held ended Pending = None
 read_from (suc n) s held ended (Bad f) = None
 
--- a body, of which the reader stands there, is read whole: these are its bytes, and this stands behind it
+-- a body of which the reader stands there is read whole: these are its bytes, and this is behind it
 abbrev pub IsBody : BodyState → (held : List ℕ) → (ended : Bool) → (bytes rest : List ℕ) → Type 0
 IsBody s held ended bytes rest =
     (n : ℕ) × (read_from n s held ended (part_of s held ended) ≡ Some (bytes, rest))

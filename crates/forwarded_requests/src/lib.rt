@@ -3,4 +3,4 @@
 
 mod laws;
 
-pub use laws::{body_is_one, forwarded_is_one, request_is_one};
+pub use laws::{body_is_one, forwarded_is_one, heads_are_framed, request_is_one};

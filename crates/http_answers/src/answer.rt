@@ -11,7 +11,7 @@ ghost use Rattle.http_answers.specs.Seen.{own_fields, seen, status_line};
 
 use crate::given::{gives_close, put_given};
 use crate::reasons::reason_of;
-use http_heads::{Status, Version, put_field, put_status, put_version};
+use http_heads::{StatusCode, Version, put_field, put_status, put_version};
 use px_bytes::{M, Text};
 use std::alloc::Global;
 
@@ -55,7 +55,7 @@ fn put_status_line(out: &mut Vec<u8>, answer: &Answer<'_>) -> M<()>
 {
     put_version(out, answer.version)?;
     out.extend_from_slice(b" ")?;
-    let status = Status::new(answer.code);
+    let status = StatusCode::new(answer.code);
     put_status(out, &status)?;
     out.extend_from_slice(b" ")?;
     out.extend_from_slice(reason_of(answer.code))?;

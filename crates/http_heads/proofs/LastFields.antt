@@ -36,7 +36,7 @@ pub still_within : (last : Option ℕ) (at : ℕ) → IfSome last (λ place. pla
 still_within None at is = tt
 still_within (Some place) at is = omega (arith, is)
 
-all_set : (fs : List Pair) (at : ℕ) (f : Pair) → list_all is_field fs ≡ true → is_field f ≡ true → list_all is_field (set fs at f) ≡ true
+pub all_set : (fs : List Pair) (at : ℕ) (f : Pair) → list_all is_field fs ≡ true → is_field f ≡ true → list_all is_field (set fs at f) ≡ true
 all_set [] at f all is = all
 all_set (g ∷ fs) zero f all is =
     ap₂ (λ s t. s && t) is (and_parts (is_field g) (list_all is_field fs) all).1

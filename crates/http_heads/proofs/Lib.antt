@@ -2,14 +2,14 @@ pub mod FilterFields
 mod FirstFields
 pub mod ForwardedFields
 pub mod Forwarding
-mod FoundHeads
+pub mod FoundHeads
 pub mod HeadsRead
-mod HostFields
-mod LastFields
+pub mod HostFields
+pub mod LastFields
 mod LineEnds
 pub mod LookedHeads
 mod OneHead
-mod PathsAre
+pub mod PathsAre
 pub mod ReadBack
 mod ReadFields
 pub mod ReadLengths
@@ -18,7 +18,7 @@ mod Rows
 mod Sections
 pub mod ShorterFields
 mod StartLines
-mod Targets
+pub mod Targets
 pub mod Trimmed
 pub mod WrittenLengths
 pub mod WrittenLines

@@ -28,7 +28,7 @@ pub use laws::{
     request_is_read, request_is_trimmed, request_stays_short, response_comes_back, response_is_one,
     response_is_read, response_is_trimmed, response_stays_short,
 };
-pub use line::{Method, Reason, Status, Target, Version};
+pub use line::{Reason, RequestMethod, RequestTarget, StatusCode, Version};
 pub use passed::{passed_request, passed_response};
 pub use received::{received_request, received_response};
 pub use request::{RequestHead, read_request, write_request};

@@ -40,11 +40,11 @@ impl Version {
 
 /// The method of a request, a token: RFC 9110, 9.1.
 #[derive(Drop)]
-pub struct Method {
+pub struct RequestMethod {
     text: Text,
 }
 
-impl Model for Method {
+impl Model for RequestMethod {
     ghost use Rattle.std.specs.Prelude.{◌≡◌, ℕ, List, true};
     ghost use Rattle.httparse.specs.Grammar.{is_token};
 
@@ -55,19 +55,19 @@ impl Model for Method {
     ghost invariant = { λ m. is_token m.text ≡ true };
 }
 
-impl Method {
-    pub(crate) fn new(text: Text) -> Method
+impl RequestMethod {
+    pub(crate) fn new(text: Text) -> RequestMethod
         requires { is_token text ≡ true }
         ensures { result ≡ text }
     {
-        Method { text }
+        RequestMethod { text }
     }
 
-    pub(crate) fn copy(&self) -> M<Method>
+    pub(crate) fn copy(&self) -> M<RequestMethod>
         ensures { IfOk result (λ m. m ≡ self.now) }
     {
         let text = self.text.copy()?;
-        Ok(Method { text })
+        Ok(RequestMethod { text })
     }
 
     pub fn as_bytes(&self) -> &[u8]
@@ -80,11 +80,11 @@ impl Method {
 
 /// The target of a request: visible characters, those past ASCII in UTF-8 (RFC 9112, 3.2, and `httparse`).
 #[derive(Drop)]
-pub struct Target {
+pub struct RequestTarget {
     text: Text,
 }
 
-impl Model for Target {
+impl Model for RequestTarget {
     ghost use Rattle.std.specs.Prelude.{ℕ, List};
     ghost use Rattle.http_heads.specs.Lines.{IsTarget};
 
@@ -102,29 +102,29 @@ fn is_visible(bytes: &[u8]) -> bool
     !bytes.is_empty() && bytes.iter().all(|byte| byte.is_ascii_graphic())
 }
 
-impl Target {
+impl RequestTarget {
     /// The target of one visible character of ASCII or more; none where the text isn't that.
-    pub fn new(text: Text) -> Option<Target>
+    pub fn new(text: Text) -> Option<RequestTarget>
         ensures { result ≡ target_made text }
     {
         if is_visible(text.as_bytes()) {
-            return Some(Target { text });
+            return Some(RequestTarget { text });
         }
         None
     }
 
-    pub(crate) fn read(text: Text) -> Target
+    pub(crate) fn read(text: Text) -> RequestTarget
         requires { IsTarget text }
         ensures { result ≡ text }
     {
-        Target { text }
+        RequestTarget { text }
     }
 
-    pub(crate) fn copy(&self) -> M<Target>
+    pub(crate) fn copy(&self) -> M<RequestTarget>
         ensures { IfOk result (λ t. t ≡ self.now) }
     {
         let text = self.text.copy()?;
-        Ok(Target { text })
+        Ok(RequestTarget { text })
     }
 
     pub fn as_bytes(&self) -> &[u8]
@@ -137,11 +137,11 @@ impl Target {
 
 /// The status code of a response: RFC 9112, 4, three digits.
 #[derive(Drop)]
-pub struct Status {
+pub struct StatusCode {
     code: u16,
 }
 
-impl Model for Status {
+impl Model for StatusCode {
     ghost use Rattle.std.specs.Prelude.{ℕ, ◌<◌};
 
     ghost Value = { ℕ };
@@ -151,12 +151,12 @@ impl Model for Status {
     ghost invariant = { λ s. s.code < 1000 };
 }
 
-impl Status {
-    pub fn new(code: u16) -> Status
+impl StatusCode {
+    pub fn new(code: u16) -> StatusCode
         requires { code < 1000 }
         ensures { result ≡ code }
     {
-        Status { code }
+        StatusCode { code }
     }
 
     pub fn code(&self) -> u16

@@ -14,7 +14,7 @@ use crate::edits::MOST_FIELDS;
 use crate::fault::HeadFault;
 use crate::fields::Fields;
 use crate::host::host_fits;
-use crate::line::Target;
+use crate::line::RequestTarget;
 use crate::passed::is_kept;
 use crate::request::RequestHead;
 use crate::response::ResponseHead;
@@ -86,7 +86,7 @@ fn take_apart(alloc: Global, head: &mut RequestHead, from: usize) -> Result<(), 
     let (authority, rest) = text.split_at(authority_length(text));
     let path = path_of(alloc, head.method.as_bytes(), rest)?;
     head.fields.put_host(alloc, authority)?;
-    head.target = Target::read(path);
+    head.target = RequestTarget::read(path);
     Ok(())
 }
 

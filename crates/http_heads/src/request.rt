@@ -10,7 +10,7 @@ ghost use Rattle.http_heads.specs.Written.{request_line, written_request};
 
 use crate::fault::HeadFault;
 use crate::fields::Fields;
-use crate::line::{Method, Target, Version, version_of};
+use crate::line::{RequestMethod, RequestTarget, Version, version_of};
 use crate::spans::fields_at;
 use crate::written::{put_section, put_version};
 use httparse::Status;
@@ -21,8 +21,8 @@ use std::alloc::Global;
 /// The head of a request: RFC 9112, 3 and 5.
 #[derive(Drop)]
 pub struct RequestHead {
-    pub method: Method,
-    pub target: Target,
+    pub method: RequestMethod,
+    pub target: RequestTarget,
     pub version: Version,
     pub fields: Fields,
 }
@@ -58,8 +58,8 @@ fn request_at(
     let target = Text::new(alloc, found.path.of(head))?;
     let fields = fields_at(alloc, head, &headers[..found.headers])?;
     Ok(RequestHead {
-        method: Method::new(method),
-        target: Target::read(target),
+        method: RequestMethod::new(method),
+        target: RequestTarget::read(target),
         version: version_of(found.version),
         fields,
     })

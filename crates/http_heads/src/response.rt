@@ -10,7 +10,7 @@ ghost use Rattle.http_heads.specs.Written.{status_line, written_response};
 
 use crate::fault::HeadFault;
 use crate::fields::Fields;
-use crate::line::{Reason, Status, Version, version_of};
+use crate::line::{Reason, StatusCode, Version, version_of};
 use crate::spans::fields_at;
 use crate::written::{put_section, put_status, put_version};
 use httparse::spans::{EMPTY_HEADER_SPAN, HeaderSpan, ResponseSpans, parse_response};
@@ -21,7 +21,7 @@ use std::alloc::Global;
 #[derive(Drop)]
 pub struct ResponseHead {
     pub version: Version,
-    pub status: Status,
+    pub status: StatusCode,
     pub reason: Reason,
     pub fields: Fields,
 }
@@ -43,7 +43,7 @@ fn response_at(
     let fields = fields_at(alloc, head, &headers[..found.headers])?;
     Ok(ResponseHead {
         version: version_of(found.version),
-        status: Status::new(found.code),
+        status: StatusCode::new(found.code),
         reason: Reason::new(reason),
         fields,
     })

@@ -5,7 +5,7 @@ ghost use Rattle.httparse.specs.Grammar.{crlf, print_field, print_section, print
 ghost use Rattle.http_heads.specs.Lines.{minor_of};
 ghost use Rattle.http_heads.specs.Written.{code_digits, line_of, lines_of};
 
-use crate::line::{Status, Version};
+use crate::line::{StatusCode, Version};
 use px_bytes::{M, Text};
 
 /// The text of a version.
@@ -21,7 +21,7 @@ pub fn put_version(out: &mut Vec<u8>, version: Version) -> M<()>
 }
 
 /// The digits of a status.
-pub fn put_status(out: &mut Vec<u8>, status: &Status) -> M<()>
+pub fn put_status(out: &mut Vec<u8>, status: &StatusCode) -> M<()>
     ensures text { OnOk result (out.new.items ≡ out.old.items ++ code_digits status.now) }
     ensures three_digits { status.now < 1000 }
 {

@@ -1,3 +1,5 @@
+pub mod KeptFields
+pub mod KeptFraming
 pub mod Lengths
 pub mod Moves
 pub mod Refusals

@@ -4,6 +4,7 @@ pub mod Commands
 pub mod Edits
 pub mod FaultText
 pub mod Forms
+pub mod Framing
 pub mod Heads
 pub mod Laws
 pub mod Payload

@@ -20,7 +20,7 @@ use crate::told::from_question;
 use crate::words::{is_word, word_at};
 use event_order::EventName;
 use http_cookies::{cookie_field, cookie_text, without_cookie};
-use http_heads::{Field, Fields, RequestHead, Target};
+use http_heads::{Field, Fields, RequestHead, RequestTarget};
 use httparse::{is_header_value, is_token};
 use px_bytes::{HostAnswer, M, Raise, Text, same_name};
 use std::alloc::Global;
@@ -54,7 +54,7 @@ pub(crate) fn sets_uri(
 ) -> Result<HostAnswer, Raise>
     ensures { Leaves (sets_uri name.now words.now state.old) result state.new }
 {
-    let target = Target::new(Text::new(alloc, word_at(words, 0))?);
+    let target = RequestTarget::new(Text::new(alloc, word_at(words, 0))?);
     changes_target(alloc, state, name, target)
 }
 
@@ -69,7 +69,7 @@ pub(crate) fn sets_path(
 {
     let mut target = Text::new(alloc, word_at(words, 0))?;
     target.push(from_question(target_of(&state.request)))?;
-    changes_target(alloc, state, name, Target::new(target))
+    changes_target(alloc, state, name, RequestTarget::new(target))
 }
 
 fn target_of(head: &Option<RequestHead>) -> &[u8]
@@ -85,7 +85,7 @@ fn changes_target(
     alloc: Global,
     state: &mut Http,
     name: &[u8],
-    target: Option<Target>,
+    target: Option<RequestTarget>,
 ) -> Result<HostAnswer, Raise>
     ensures { Leaves (changes_target name.now target state.old) result state.new }
 {
@@ -97,7 +97,7 @@ fn changes_target(
     Ok(no_value(alloc))
 }
 
-fn target_holds(target: &Target, head: &Option<RequestHead>) -> bool
+fn target_holds(target: &RequestTarget, head: &Option<RequestHead>) -> bool
     ensures { result ≡ target_holds target.now head.now }
 {
     match head {
@@ -106,7 +106,7 @@ fn target_holds(target: &Target, head: &Option<RequestHead>) -> bool
     }
 }
 
-fn target_put(target: Target, head: &mut Option<RequestHead>)
+fn target_put(target: RequestTarget, head: &mut Option<RequestHead>)
     ensures { head.new ≡ targeted target head.old }
 {
     if let Some(head) = head {

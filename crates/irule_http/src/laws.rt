@@ -1,5 +1,6 @@
 // What holds of HTTP commands.
 
+ghost use Rattle.irule_http.specs.Framing.{FramingIsKept};
 ghost use Rattle.irule_http.specs.Laws.{AnsweredOnce, AnswersAreBounded, AnswersAreCounted};
 ghost use Rattle.irule_http.specs.Laws.{AnswersGoAlone};
 ghost use Rattle.irule_http.specs.Laws.{AnswersReadBack};
@@ -81,4 +82,9 @@ pub fn answers_go_alone()
 /// The law that in an event in which no rule may answer no command sends.
 pub fn silent()
     ensures { Silent }
+{}
+
+/// The law that no command changes how long a request's head says that its body is.
+pub fn framing_is_kept()
+    ensures { FramingIsKept }
 {}

@@ -20,8 +20,8 @@ mod words;
 pub use command::http_command;
 pub use laws::{
     answered_once, answers_are_bounded, answers_are_counted, answers_go_alone, answers_read_back,
-    faults_change_nothing, heads_fit, interim_heads_fit, keeps_message, payload_fits,
-    sent_heads_fit, sent_request_is_read, sent_response_is_read, silent,
+    faults_change_nothing, framing_is_kept, heads_fit, interim_heads_fit, keeps_message,
+    payload_fits, sent_heads_fit, sent_request_is_read, sent_response_is_read, silent,
 };
 pub use sent::{client_closes, interim_head, sent_head};
 pub use state::{Http, Request, Response};

@@ -9,7 +9,7 @@ ghost use Rattle.irule_http.specs.Heads.{response_with, target_with};
 use crate::Http;
 use crate::form::is_response;
 use event_order::EventName;
-use http_heads::{Fields, RequestHead, ResponseHead, Target};
+use http_heads::{Fields, RequestHead, RequestTarget, ResponseHead};
 use px_bytes::Text;
 
 /// The most bytes that the method, the target and the lines of the fields have together in a head of
@@ -54,7 +54,7 @@ fn fits_beside(most: usize, first: usize, second: usize, fields: &[(Text, Text)]
 }
 
 /// Whether a request's head with this target is within its limits.
-pub(crate) fn target_fits(target: &Target, head: &RequestHead) -> bool
+pub(crate) fn target_fits(target: &RequestTarget, head: &RequestHead) -> bool
     ensures { result ≡ request_fits (target_with target.now head.now) }
 {
     fits_beside(

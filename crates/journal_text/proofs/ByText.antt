@@ -4,16 +4,16 @@ use Rattle.std.specs.Str.{bytes_eq}
 use Rattle.std.proofs.lemmas.Slice.Eq.{bytes_eq-Decides}
 use Rattle.journal_text.proofs.Found.{found_passes}
 use Rattle.journal_text.specs.Verb.{verb_text, every_verb}
-use Rattle.journal_text.specs.declared.verb.Verb.{Verb}
-use Rattle.journal_text.specs.declared.verb.Verb.TheVariants.{Accept, Client, ClientEnd, ClientReset}
-use Rattle.journal_text.specs.declared.verb.Verb.TheVariants.{Connected, Refused, Server, ServerEnd}
-use Rattle.journal_text.specs.declared.verb.Verb.TheVariants.{ServerReset, ClientTook, ServerTook}
-use Rattle.journal_text.specs.declared.verb.Verb.TheVariants.{Tick, Turn, Run, Mark}
+use Rattle.journal_text.specs.declared.verb.EventVerb.{EventVerb}
+use Rattle.journal_text.specs.declared.verb.EventVerb.TheVariants.{Accept, Client, ClientEnd, ClientReset}
+use Rattle.journal_text.specs.declared.verb.EventVerb.TheVariants.{Connected, Refused, Server, ServerEnd}
+use Rattle.journal_text.specs.declared.verb.EventVerb.TheVariants.{ServerReset, ClientTook, ServerTook}
+use Rattle.journal_text.specs.declared.verb.EventVerb.TheVariants.{Tick, Turn, Run, Mark}
 
-abbrev pub verb_named : List ℕ → Verb → Type 0
+abbrev pub verb_named : List ℕ → EventVerb → Type 0
 verb_named t v = find (λ x. bytes_eq (verb_text x) t) every_verb ≡ Some v
 
-pub verb_at_text : (v : Verb) → verb_named (verb_text v) v
+pub verb_at_text : (v : EventVerb) → verb_named (verb_text v) v
 verb_at_text Accept = refl
 verb_at_text Client = refl
 verb_at_text ClientEnd = refl
@@ -30,7 +30,7 @@ verb_at_text Turn = refl
 verb_at_text Run = refl
 verb_at_text Mark = refl
 
-pub verb_by_text : (t : List ℕ) (v : Verb) → verb_named t v ↔ (t ≡ verb_text v)
+pub verb_by_text : (t : List ℕ) (v : EventVerb) → verb_named t v ↔ (t ≡ verb_text v)
 verb_by_text t v = (
   λ h. sym ((bytes_eq-Decides (verb_text v) t).0 (found_passes (λ x. bytes_eq (verb_text x) t) every_verb v h)),
   λ h. subst (λ u. verb_named u v) (sym h) (verb_at_text v),

@@ -10,8 +10,8 @@ use Rattle.journal_text.specs.Reading.{Reads, ReadAs}
 use Rattle.journal_text.specs.Laws.{OneEvent}
 use Rattle.core_events.specs.declared.event.Event.{Event}
 use Rattle.core_events.specs.declared.event.Event.TheVariants as event
-use Rattle.journal_text.specs.declared.verb.Verb.{Verb}
-use Rattle.journal_text.specs.declared.verb.Verb.TheVariants as verb
+use Rattle.journal_text.specs.declared.verb.EventVerb.{EventVerb}
+use Rattle.journal_text.specs.declared.verb.EventVerb.TheVariants as verb
 use Rattle.journal_text.proofs.FirstWord.{same_verb}
 use Rattle.journal_text.proofs.ReadFields.{number_read, hex_read, name_read, ip_read, member_read}
 use Rattle.journal_text.proofs.ReadFields.{health_read}
@@ -72,7 +72,7 @@ read_one (form ∷ fs) small (word ∷ words) (x ∷ a) (y ∷ b) r s =
     let rest = read_one fs small.1 words a b r.1 s.1 in
     cc
 
-pub forms_small : (v : Verb) → AllSmall (forms v)
+pub forms_small : (v : EventVerb) → AllSmall (forms v)
 forms_small verb.Accept = (omega arith, (tt, (tt, (omega arith, tt))))
 forms_small verb.Client = (omega arith, (tt, tt))
 forms_small verb.ClientEnd = (omega arith, tt)
@@ -90,7 +90,7 @@ forms_small verb.Run = tt
 forms_small verb.Mark = (tt, (tt, (tt, tt)))
 
 -- the event of a verb and what was read behind it
-rebuilt : Verb → List Field → Event
+rebuilt : EventVerb → List Field → Event
 rebuilt verb.Accept (Numbered a ∷ Named b ∷ From c ∷ Numbered d ∷ []) = event.Accept a b (record { ip = c; port = d })
 rebuilt verb.Client (Numbered a ∷ Bytes b ∷ []) = event.FromClient a b
 rebuilt verb.ClientEnd (Numbered a ∷ []) = event.ClientEnd a

@@ -16,8 +16,8 @@ use Rattle.journal_text.specs.Reading.{Reads, ReadAs}
 use Rattle.journal_text.specs.Line.{is_blank, is_word, words_of, event_text, IsSkipped}
 use Rattle.journal_text.specs.Line.{NoneEmpty, WordsSpell}
 use Rattle.journal_text.specs.Laws.{IsWritable, AllWritable, WrittenIsRead}
-use Rattle.journal_text.specs.declared.verb.Verb.{Verb}
-use Rattle.journal_text.specs.declared.verb.Verb.TheVariants as verb
+use Rattle.journal_text.specs.declared.verb.EventVerb.{EventVerb}
+use Rattle.journal_text.specs.declared.verb.EventVerb.TheVariants as verb
 use Rattle.journal_text.proofs.Addresses.{Without, decimal_without, ip_without, addr_without, is_small_addr}
 use Rattle.journal_text.proofs.Clean.{no_digit, name_free, hex_free, health_free}
 use Rattle.journal_text.proofs.Spacing.{AllWithout, tail, spaced_tail, words_spaced}
@@ -115,7 +115,7 @@ not_first : (x : ℕ) → (x == 35) ≡ false → (x == 62) ≡ false → (x ≡
 not_first x a b (inl e) = grind (arith, e, a)
 not_first x a b (inr e) = grind (arith, e, b)
 
-verb_is : (v : Verb) → IsVerb (verb_text v)
+verb_is : (v : EventVerb) → IsVerb (verb_text v)
 verb_is verb.Accept = record { free = (refl, (refl, (refl, (refl, (refl, (refl, tt)))))); some = refl; shown = λ more. not_first 97 refl refl }
 verb_is verb.Client = record { free = (refl, (refl, (refl, (refl, (refl, (refl, tt)))))); some = refl; shown = λ more. not_first 99 refl refl }
 verb_is verb.ClientEnd = record { free = (refl, (refl, (refl, (refl, (refl, (refl, (refl, (refl, (refl, (refl, tt)))))))))); some = refl; shown = λ more. not_first 99 refl refl }

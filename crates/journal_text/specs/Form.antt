@@ -4,8 +4,8 @@ use Rattle.std.specs.Fmt.{decimal}
 use Rattle.px_bytes.specs.Address.{ip_text, addr_text}
 use Rattle.px_bytes.specs.Hexadecimal.{hex_text}
 use Rattle.px_bytes.specs.declared.addr.Addr.{Addr}
-use Rattle.journal_text.specs.declared.verb.Verb.{Verb}
-use Rattle.journal_text.specs.declared.verb.Verb.TheVariants as verb
+use Rattle.journal_text.specs.declared.verb.EventVerb.{EventVerb}
+use Rattle.journal_text.specs.declared.verb.EventVerb.TheVariants as verb
 use Rattle.core_events.specs.declared.event.Event.{Event}
 use Rattle.core_events.specs.declared.event.Event.TheVariants as event
 
@@ -38,7 +38,7 @@ abbrev pub count_form : Form
 count_form = Number 9007199254740992
 
 -- the words behind the first one
-abbrev pub forms : Verb → List Form
+abbrev pub forms : EventVerb → List Form
 forms verb.Accept = conn_form ∷ Name ∷ Ip ∷ port_form ∷ []
 forms verb.Client = conn_form ∷ Hex ∷ []
 forms verb.Server = conn_form ∷ Hex ∷ []
@@ -51,7 +51,7 @@ forms verb.Mark = Name ∷ Member ∷ Health ∷ []
 forms one_connection = conn_form ∷ []
 
 -- the first word of an event's line
-abbrev pub verb_of : Event → Verb
+abbrev pub verb_of : Event → EventVerb
 verb_of (event.Accept conn vs from) = verb.Accept
 verb_of (event.FromClient conn bytes) = verb.Client
 verb_of (event.ClientEnd conn) = verb.ClientEnd

@@ -6,7 +6,7 @@ use Rattle.std.specs.List.{list_all, slice_split}
 use Rattle.journal_text.specs.Verb.{verb_text}
 use Rattle.journal_text.specs.Form.{forms, verb_of, fields, field_text}
 use Rattle.journal_text.specs.Reading.{ReadAs, Fails}
-use Rattle.journal_text.specs.declared.verb.Verb.{Verb}
+use Rattle.journal_text.specs.declared.verb.EventVerb.{EventVerb}
 use Rattle.core_events.specs.declared.event.Event.{Event}
 use Rattle.journal_text.specs.declared.line_kind.LineKind.{LineKind}
 use Rattle.journal_text.specs.declared.line_kind.LineKind.TheVariants.{LongLine, NoNewline}
@@ -48,14 +48,14 @@ pub record WordsSpell (words : List (List ℕ)) (event : Event) : Type 0 where
 -- the words have the first word of some event, and fail behind it
 pub record FailsBehind (words : List (List ℕ)) (kind : LineKind) : Type 0 where
   pub none_empty : NoneEmpty words
-  pub verb : Verb
+  pub verb : EventVerb
   pub rest : List (List ℕ)
   pub words_are : words ≡ verb_text verb ∷ rest
   pub fails : Fails (forms verb) rest kind
 
 -- the words are those of no event
 abbrev pub NoEvent : List (List ℕ) → Type 0
-NoEvent words = NoneEmpty words → (verb : Verb) (rest : List (List ℕ))
+NoEvent words = NoneEmpty words → (verb : EventVerb) (rest : List (List ℕ))
     → words ≡ verb_text verb ∷ rest → Fails (forms verb) rest NotEvent
 
 -- what is wrong with the words of a line

@@ -1,13 +1,13 @@
 -- The first words of the lines of a schedule, this project's own.
 use Rattle.std.specs.Prelude.{ℕ, List, [], ◌∷◌, codes}
-use Rattle.journal_text.specs.declared.verb.Verb.{Verb}
-use Rattle.journal_text.specs.declared.verb.Verb.TheVariants.{Accept, Client, ClientEnd}
-use Rattle.journal_text.specs.declared.verb.Verb.TheVariants.{ClientReset}
-use Rattle.journal_text.specs.declared.verb.Verb.TheVariants.{Connected, Refused, Server, ServerEnd}
-use Rattle.journal_text.specs.declared.verb.Verb.TheVariants.{ServerReset, ClientTook, ServerTook}
-use Rattle.journal_text.specs.declared.verb.Verb.TheVariants.{Tick, Turn, Run, Mark}
+use Rattle.journal_text.specs.declared.verb.EventVerb.{EventVerb}
+use Rattle.journal_text.specs.declared.verb.EventVerb.TheVariants.{Accept, Client, ClientEnd}
+use Rattle.journal_text.specs.declared.verb.EventVerb.TheVariants.{ClientReset}
+use Rattle.journal_text.specs.declared.verb.EventVerb.TheVariants.{Connected, Refused, Server, ServerEnd}
+use Rattle.journal_text.specs.declared.verb.EventVerb.TheVariants.{ServerReset, ClientTook, ServerTook}
+use Rattle.journal_text.specs.declared.verb.EventVerb.TheVariants.{Tick, Turn, Run, Mark}
 
-abbrev pub verb_text : Verb → List ℕ
+abbrev pub verb_text : EventVerb → List ℕ
 verb_text Accept = codes "accept"
 verb_text Client = codes "client"
 verb_text ClientEnd = codes "client-end"
@@ -24,7 +24,7 @@ verb_text Turn = codes "turn"
 verb_text Run = codes "run"
 verb_text Mark = codes "mark"
 
-abbrev pub every_verb : List Verb
+abbrev pub every_verb : List EventVerb
 every_verb =
     Accept ∷ Client ∷ ClientEnd ∷ ClientReset ∷ Connected ∷ Refused ∷ Server ∷ ServerEnd
     ∷ ServerReset ∷ ClientTook ∷ ServerTook ∷ Tick ∷ Turn ∷ Run ∷ Mark ∷ []

@@ -7,7 +7,7 @@ ghost use Rattle.journal_text.specs.Form.{Hex, Numbered, Bytes, conn_form, count
 ghost use Rattle.journal_text.specs.Form.{forms, fields, verb_of};
 ghost use Rattle.journal_text.specs.Reading.{Answered};
 
-use crate::{LineKind, Verb};
+use crate::{EventVerb, LineKind};
 use core_events::Event;
 use px_bytes::{Addr, Text, read_addr, read_decimal, read_hex, read_ip};
 use std::alloc::Global;
@@ -16,22 +16,22 @@ use std::alloc::Global;
 const MOST_COUNTED: u64 = 1 << 53;
 
 /// The event that the words behind the verb tell.
-pub fn verb_event(alloc: Global, verb: Verb, rest: &[&[u8]]) -> Result<Event, LineKind>
+pub fn verb_event(alloc: Global, verb: EventVerb, rest: &[&[u8]]) -> Result<Event, LineKind>
     ensures verb_is { IfOk result (λ event. verb_of event ≡ verb) }
     ensures answered { Answered fields (forms verb) (map (λ w. w.now) rest.now) result }
 {
     match verb {
-        Verb::Accept => accept_event(alloc, rest),
-        Verb::Mark => mark_event(alloc, rest),
-        Verb::Client | Verb::Server => bytes_event(alloc, verb, rest),
-        Verb::ClientTook | Verb::ServerTook => took_event(verb, rest),
-        Verb::Tick => tick_event(rest),
-        Verb::Turn | Verb::Run => plain_event(verb, rest),
+        EventVerb::Accept => accept_event(alloc, rest),
+        EventVerb::Mark => mark_event(alloc, rest),
+        EventVerb::Client | EventVerb::Server => bytes_event(alloc, verb, rest),
+        EventVerb::ClientTook | EventVerb::ServerTook => took_event(verb, rest),
+        EventVerb::Tick => tick_event(rest),
+        EventVerb::Turn | EventVerb::Run => plain_event(verb, rest),
         _ => connection_event(verb, rest),
     }
 }
 
-fn plain_event(verb: Verb, rest: &[&[u8]]) -> Result<Event, LineKind>
+fn plain_event(verb: EventVerb, rest: &[&[u8]]) -> Result<Event, LineKind>
     requires { forms verb ≡ [] }
     ensures verb_is { IfOk result (λ event. verb_of event ≡ verb) }
     ensures answered { Answered fields (forms verb) (map (λ w. w.now) rest.now) result }
@@ -40,12 +40,12 @@ fn plain_event(verb: Verb, rest: &[&[u8]]) -> Result<Event, LineKind>
         return Err(LineKind::NotEvent);
     }
     match verb {
-        Verb::Turn => Ok(Event::Turn),
+        EventVerb::Turn => Ok(Event::Turn),
         _ => Ok(Event::Run),
     }
 }
 
-fn connection_event(verb: Verb, rest: &[&[u8]]) -> Result<Event, LineKind>
+fn connection_event(verb: EventVerb, rest: &[&[u8]]) -> Result<Event, LineKind>
     requires { forms verb ≡ conn_form ∷ [] }
     ensures verb_is { IfOk result (λ event. verb_of event ≡ verb) }
     ensures answered { Answered fields (forms verb) (map (λ w. w.now) rest.now) result }
@@ -55,18 +55,18 @@ fn connection_event(verb: Verb, rest: &[&[u8]]) -> Result<Event, LineKind>
     };
     let conn = conn_of(conn).ok_or(LineKind::BadNumber)?;
     Ok(match verb {
-        Verb::ClientEnd => Event::ClientEnd { conn },
-        Verb::ClientReset => Event::ClientReset { conn },
-        Verb::Connected => Event::Connected { conn },
-        Verb::Refused => Event::Refused { conn },
-        Verb::ServerEnd => Event::ServerEnd { conn },
+        EventVerb::ClientEnd => Event::ClientEnd { conn },
+        EventVerb::ClientReset => Event::ClientReset { conn },
+        EventVerb::Connected => Event::Connected { conn },
+        EventVerb::Refused => Event::Refused { conn },
+        EventVerb::ServerEnd => Event::ServerEnd { conn },
         _ => Event::ServerReset { conn },
     })
 }
 
 fn tick_event(rest: &[&[u8]]) -> Result<Event, LineKind>
-    ensures verb_is { IfOk result (λ event. verb_of event ≡ Verb.Tick) }
-    ensures answered { Answered fields (forms Verb.Tick) (map (λ w. w.now) rest.now) result }
+    ensures verb_is { IfOk result (λ event. verb_of event ≡ EventVerb.Tick) }
+    ensures answered { Answered fields (forms EventVerb.Tick) (map (λ w. w.now) rest.now) result }
 {
     let [moment] = rest else {
         return Err(LineKind::NotEvent);
@@ -75,7 +75,7 @@ fn tick_event(rest: &[&[u8]]) -> Result<Event, LineKind>
     Ok(Event::Tick { moment })
 }
 
-fn took_event(verb: Verb, rest: &[&[u8]]) -> Result<Event, LineKind>
+fn took_event(verb: EventVerb, rest: &[&[u8]]) -> Result<Event, LineKind>
     requires { forms verb ≡ conn_form ∷ count_form ∷ [] }
     ensures verb_is { IfOk result (λ event. verb_of event ≡ verb) }
     ensures answered { Answered fields (forms verb) (map (λ w. w.now) rest.now) result }
@@ -86,12 +86,12 @@ fn took_event(verb: Verb, rest: &[&[u8]]) -> Result<Event, LineKind>
     let conn = conn_of(conn).ok_or(LineKind::BadNumber)?;
     let n = count_of(n).ok_or(LineKind::BadNumber)? as usize;
     Ok(match verb {
-        Verb::ClientTook => Event::ClientTook { conn, n },
+        EventVerb::ClientTook => Event::ClientTook { conn, n },
         _ => Event::ServerTook { conn, n },
     })
 }
 
-fn bytes_event(alloc: Global, verb: Verb, rest: &[&[u8]]) -> Result<Event, LineKind>
+fn bytes_event(alloc: Global, verb: EventVerb, rest: &[&[u8]]) -> Result<Event, LineKind>
     requires { forms verb ≡ conn_form ∷ Hex ∷ [] }
     ensures verb_is { IfOk result (λ event. verb_of event ≡ verb) }
     ensures answered { Answered fields (forms verb) (map (λ w. w.now) rest.now) result }
@@ -101,7 +101,7 @@ fn bytes_event(alloc: Global, verb: Verb, rest: &[&[u8]]) -> Result<Event, LineK
     };
     let (conn, bytes) = bytes_words(alloc, conn, bytes)?;
     Ok(match verb {
-        Verb::Client => Event::FromClient { conn, bytes },
+        EventVerb::Client => Event::FromClient { conn, bytes },
         _ => Event::FromServer { conn, bytes },
     })
 }
@@ -121,8 +121,8 @@ fn bytes_words(alloc: Global, conn: &[u8], bytes: &[u8]) -> Result<(u32, Text), 
 }
 
 fn accept_event(alloc: Global, rest: &[&[u8]]) -> Result<Event, LineKind>
-    ensures verb_is { IfOk result (λ event. verb_of event ≡ Verb.Accept) }
-    ensures answered { Answered fields (forms Verb.Accept) (map (λ w. w.now) rest.now) result }
+    ensures verb_is { IfOk result (λ event. verb_of event ≡ EventVerb.Accept) }
+    ensures answered { Answered fields (forms EventVerb.Accept) (map (λ w. w.now) rest.now) result }
 {
     match rest {
         [conn, vs, ip, port] => accept_words(alloc, conn, vs, ip, port),
@@ -138,8 +138,8 @@ fn accept_words(
     ip: &[u8],
     port: &[u8],
 ) -> Result<Event, LineKind>
-    ensures verb_is { IfOk result (λ event. verb_of event ≡ Verb.Accept) }
-    ensures answered { Answered fields (forms Verb.Accept)
+    ensures verb_is { IfOk result (λ event. verb_of event ≡ EventVerb.Accept) }
+    ensures answered { Answered fields (forms EventVerb.Accept)
         (conn.now ∷ vs.now ∷ ip.now ∷ port.now ∷ []) result }
 {
     let Some(ip) = read_ip(ip) else {
@@ -157,8 +157,8 @@ fn accept_words(
 }
 
 fn mark_event(alloc: Global, rest: &[&[u8]]) -> Result<Event, LineKind>
-    ensures verb_is { IfOk result (λ event. verb_of event ≡ Verb.Mark) }
-    ensures answered { Answered fields (forms Verb.Mark) (map (λ w. w.now) rest.now) result }
+    ensures verb_is { IfOk result (λ event. verb_of event ≡ EventVerb.Mark) }
+    ensures answered { Answered fields (forms EventVerb.Mark) (map (λ w. w.now) rest.now) result }
 {
     match rest {
         [pool, member, health] => mark_words(alloc, pool, member, health),
@@ -167,8 +167,8 @@ fn mark_event(alloc: Global, rest: &[&[u8]]) -> Result<Event, LineKind>
 }
 
 fn mark_words(alloc: Global, pool: &[u8], member: &[u8], health: &[u8]) -> Result<Event, LineKind>
-    ensures verb_is { IfOk result (λ event. verb_of event ≡ Verb.Mark) }
-    ensures answered { Answered fields (forms Verb.Mark)
+    ensures verb_is { IfOk result (λ event. verb_of event ≡ EventVerb.Mark) }
+    ensures answered { Answered fields (forms EventVerb.Mark)
         (pool.now ∷ member.now ∷ health.now ∷ []) result }
 {
     let member = read_addr(member).ok_or(LineKind::NotEvent)?;

@@ -14,5 +14,5 @@ pub use laws::{fault_spells_none, one_event, written_is_read};
 pub use line::{LONGEST_LINE, line_event};
 pub use line_kind::LineKind;
 pub use note::{write_note, write_notes};
-pub use verb::Verb;
+pub use verb::EventVerb;
 pub use write::write_event;

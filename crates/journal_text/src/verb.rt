@@ -3,11 +3,11 @@
 ghost use Rattle.std.specs.Prelude.{◌≡◌, ◌↔◌, Some, find};
 ghost use Rattle.std.specs.Str.{bytes_eq};
 ghost use Rattle.journal_text.specs.Verb.{verb_text, every_verb};
-ghost use Rattle.journal_text.specs.declared.verb.Verb.{Verb};
+ghost use Rattle.journal_text.specs.declared.verb.EventVerb.{EventVerb};
 
 /// The first word of a line, which says what happens.
 #[derive(Clone, Copy, PartialEq, Eq)]
-pub enum Verb {
+pub enum EventVerb {
     Accept,
     Client,
     ClientEnd,
@@ -25,24 +25,24 @@ pub enum Verb {
     Mark,
 }
 
-impl Verb {
+impl EventVerb {
     /// All of them.
-    pub const ALL: [Verb; 15] = [
-        Verb::Accept,
-        Verb::Client,
-        Verb::ClientEnd,
-        Verb::ClientReset,
-        Verb::Connected,
-        Verb::Refused,
-        Verb::Server,
-        Verb::ServerEnd,
-        Verb::ServerReset,
-        Verb::ClientTook,
-        Verb::ServerTook,
-        Verb::Tick,
-        Verb::Turn,
-        Verb::Run,
-        Verb::Mark,
+    pub const ALL: [EventVerb; 15] = [
+        EventVerb::Accept,
+        EventVerb::Client,
+        EventVerb::ClientEnd,
+        EventVerb::ClientReset,
+        EventVerb::Connected,
+        EventVerb::Refused,
+        EventVerb::Server,
+        EventVerb::ServerEnd,
+        EventVerb::ServerReset,
+        EventVerb::ClientTook,
+        EventVerb::ServerTook,
+        EventVerb::Tick,
+        EventVerb::Turn,
+        EventVerb::Run,
+        EventVerb::Mark,
     ];
 
     /// Its spelling.
@@ -50,34 +50,37 @@ impl Verb {
         ensures { result.now ≡ verb_text self }
     {
         match self {
-            Verb::Accept => b"accept",
-            Verb::Client => b"client",
-            Verb::ClientEnd => b"client-end",
-            Verb::ClientReset => b"client-reset",
-            Verb::Connected => b"connected",
-            Verb::Refused => b"refused",
-            Verb::Server => b"server",
-            Verb::ServerEnd => b"server-end",
-            Verb::ServerReset => b"server-reset",
-            Verb::ClientTook => b"client-took",
-            Verb::ServerTook => b"server-took",
-            Verb::Tick => b"tick",
-            Verb::Turn => b"turn",
-            Verb::Run => b"run",
-            Verb::Mark => b"mark",
+            EventVerb::Accept => b"accept",
+            EventVerb::Client => b"client",
+            EventVerb::ClientEnd => b"client-end",
+            EventVerb::ClientReset => b"client-reset",
+            EventVerb::Connected => b"connected",
+            EventVerb::Refused => b"refused",
+            EventVerb::Server => b"server",
+            EventVerb::ServerEnd => b"server-end",
+            EventVerb::ServerReset => b"server-reset",
+            EventVerb::ClientTook => b"client-took",
+            EventVerb::ServerTook => b"server-took",
+            EventVerb::Tick => b"tick",
+            EventVerb::Turn => b"turn",
+            EventVerb::Run => b"run",
+            EventVerb::Mark => b"mark",
         }
     }
 }
 
 /// The verb of this spelling.
-pub fn read_verb(text: &[u8]) -> Option<Verb>
-    ensures { (verb : Verb) → (result ≡ Some verb) ↔ (text.now ≡ verb_text verb) }
+pub fn read_verb(text: &[u8]) -> Option<EventVerb>
+    ensures { (verb : EventVerb) → (result ≡ Some verb) ↔ (text.now ≡ verb_text verb) }
 {
     first_of_text(text)
 }
 
-fn first_of_text(text: &[u8]) -> Option<Verb>
+fn first_of_text(text: &[u8]) -> Option<EventVerb>
     ensures { result ≡ find (λ verb. bytes_eq (verb_text verb) text.now) every_verb }
 {
-    Verb::ALL.iter().copied().find(|verb| verb.text() == text)
+    EventVerb::ALL
+        .iter()
+        .copied()
+        .find(|verb| verb.text() == text)
 }

@@ -5,7 +5,7 @@ ghost use Rattle.std.specs.Fmt.{decimal};
 ghost use Rattle.journal_text.specs.Form.{field_text, fields, health_text, verb_of};
 ghost use Rattle.journal_text.specs.Line.{event_line, spaced};
 
-use crate::Verb;
+use crate::EventVerb;
 use core_events::Event;
 use px_bytes::{Addr, M, Text, print_addr, print_hex, print_ip};
 use std::alloc::Global;
@@ -20,25 +20,25 @@ pub fn write_event(alloc: Global, event: &Event) -> M<Text>
     Ok(line)
 }
 
-fn verb_of(event: &Event) -> Verb
+fn verb_of(event: &Event) -> EventVerb
     ensures { result ≡ verb_of event.now }
 {
     match event {
-        Event::Accept { .. } => Verb::Accept,
-        Event::FromClient { .. } => Verb::Client,
-        Event::ClientEnd { .. } => Verb::ClientEnd,
-        Event::ClientReset { .. } => Verb::ClientReset,
-        Event::Connected { .. } => Verb::Connected,
-        Event::Refused { .. } => Verb::Refused,
-        Event::FromServer { .. } => Verb::Server,
-        Event::ServerEnd { .. } => Verb::ServerEnd,
-        Event::ServerReset { .. } => Verb::ServerReset,
-        Event::ClientTook { .. } => Verb::ClientTook,
-        Event::ServerTook { .. } => Verb::ServerTook,
-        Event::Tick { .. } => Verb::Tick,
-        Event::Turn => Verb::Turn,
-        Event::Run => Verb::Run,
-        Event::Mark { .. } => Verb::Mark,
+        Event::Accept { .. } => EventVerb::Accept,
+        Event::FromClient { .. } => EventVerb::Client,
+        Event::ClientEnd { .. } => EventVerb::ClientEnd,
+        Event::ClientReset { .. } => EventVerb::ClientReset,
+        Event::Connected { .. } => EventVerb::Connected,
+        Event::Refused { .. } => EventVerb::Refused,
+        Event::FromServer { .. } => EventVerb::Server,
+        Event::ServerEnd { .. } => EventVerb::ServerEnd,
+        Event::ServerReset { .. } => EventVerb::ServerReset,
+        Event::ClientTook { .. } => EventVerb::ClientTook,
+        Event::ServerTook { .. } => EventVerb::ServerTook,
+        Event::Tick { .. } => EventVerb::Tick,
+        Event::Turn => EventVerb::Turn,
+        Event::Run => EventVerb::Run,
+        Event::Mark { .. } => EventVerb::Mark,
     }
 }
 

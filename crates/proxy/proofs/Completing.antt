@@ -4,7 +4,7 @@ use Rattle.config.specs.declared.reader.LoadedConfig as loaded
 use Rattle.run_config.specs.declared.config.Config as core
 use Rattle.proxy.specs.declared.end.End.{End}
 use Rattle.proxy.specs.declared.end.End.TheVariants.{Done, Usage, Config, Schedule, ReadFault}
-use Rattle.proxy.specs.declared.end.End.TheVariants.{WriteFault, Memory, Differs}
+use Rattle.proxy.specs.declared.end.End.TheVariants.{WriteFault, Memory, Differs, SecondText}
 use Rattle.proxy.specs.Command.{Command, Checks as Checking, Explains as Explaining, Migrates as Migrating}
 use Rattle.proxy.specs.Complete.{Completes, IsRefused, MayLoad, MayMirror, MayReplay, MayReport, MayTell}
 use Rattle.proxy.specs.Migrating.{MigratesFile}
@@ -54,6 +54,7 @@ module _ (words : List (List ℕ)) (told : List ℕ → Option (List ℕ)) (old 
   checks WriteFault m k = absurd (m.no_write_fault k.0)
   checks Memory m k = inr refl
   checks Differs m k = absurd k
+  checks SecondText m k = absurd k
 
   explains : (end : End) (m : MayTell Explaining words told rb rn b n) → ExplainsFile m.name told old new rb rn b n end → (end ≡ Done) ⊎ (end ≡ Memory)
   explains Done m k = inl refl
@@ -64,6 +65,7 @@ module _ (words : List (List ℕ)) (told : List ℕ → Option (List ℕ)) (old 
   explains WriteFault m k = absurd (m.no_write_fault k.0)
   explains Memory m k = inr refl
   explains Differs m k = absurd k
+  explains SecondText m k = absurd k
 
   migrates : (end : End) (m : MayTell Migrating words told rb rn b n) → MigratesFile m.name told old new rb rn b n end → (end ≡ Done) ⊎ (end ≡ Memory)
   migrates Done m k = inl refl
@@ -74,6 +76,7 @@ module _ (words : List (List ℕ)) (told : List ℕ → Option (List ℕ)) (old 
   migrates WriteFault m k = absurd (m.no_write_fault k.0)
   migrates Memory m k = inr refl
   migrates Differs m k = absurd k
+  migrates SecondText m k = absurd k
 
   no_fault : (m : MayReport words told rb rn b n) (record_text text : List ℕ) → IsContents told m.name record_text → FaultsRecord record_text text → ⊥
   no_fault m record_text text contents f =
@@ -89,6 +92,7 @@ module _ (words : List (List ℕ)) (told : List ℕ → Option (List ℕ)) (old 
   reports WriteFault m k = absurd (m.no_write_fault k.tells.0)
   reports Memory m k = inr refl
   reports Differs m k = absurd k.tells
+  reports SecondText m k = absurd k.tells
 
   -- a record that is a journal whose moments are in order comes to what its plan does
   module _ (m : MayMirror words told rb rn b n) where
@@ -128,6 +132,7 @@ module _ (words : List (List ℕ)) (told : List ℕ → Option (List ℕ)) (old 
   mirrors WriteFault m k = absurd (m.no_write_fault k.0)
   mirrors Memory m k = inr refl
   mirrors Differs m k = inl (written_due m k.0 Differs k.1 k.2)
+  mirrors SecondText m k = absurd k
 
   -- a schedule of which each line spells an event has no faulty line
   module _ (m : MayReplay words told rb rn b n) (K : core.Config) (runs : Runs told m.named K m.schedule) where
@@ -146,6 +151,7 @@ module _ (words : List (List ℕ)) (told : List ℕ → Option (List ℕ)) (old 
   replays WriteFault m k = absurd (m.no_write_fault k.0)
   replays Memory m k = inr (inl refl)
   replays Differs m k = absurd k
+  replays SecondText m k = absurd k
 
   pub completes : (end : End) → Offline words told old new rb rn b n end → Completes words told old new rb rn b n end
   completes end k =

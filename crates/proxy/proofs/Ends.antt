@@ -12,11 +12,11 @@ use Rattle.px_outside.specs.declared.failed.Failed.TheVariants as failed
 use Rattle.run_config.specs.declared.config.Config as core
 use Rattle.proxy.specs.declared.end.End.{End}
 use Rattle.proxy.specs.declared.end.End.TheVariants.{Done, Usage, Config, Schedule, ReadFault}
-use Rattle.proxy.specs.declared.end.End.TheVariants.{WriteFault, Memory, Differs}
+use Rattle.proxy.specs.declared.end.End.TheVariants.{WriteFault, Memory, Differs, SecondText}
 use Rattle.proxy.specs.Command.{Named}
-use Rattle.proxy.specs.End.{end_unless}
+use Rattle.proxy.specs.End.{end_of_read, end_unless}
 use Rattle.proxy.specs.Loads.{IsUnread, Loads, LoadsSome, is_read_fault}
-use Rattle.proxy.specs.Offline.{ChecksFile, Explains, ExplainsFile, IsCheck, IsDue, IsExplanation, IsNotBuilt, ReplaysFiles, Runs, end_of_read, not_built_text}
+use Rattle.proxy.specs.Offline.{ChecksFile, Explains, ExplainsFile, IsCheck, IsDue, IsExplanation, IsNotBuilt, ReplaysFiles, Runs, not_built_text}
 use Rattle.proxy.specs.Replayed.{Replayed}
 use Rattle.proxy.specs.Report.{ok_text}
 use Rattle.proxy.specs.Runnable.{IsRun, run_of}
@@ -40,6 +40,7 @@ module _ (text : List ℕ) (usual : End) (old new : Option (List ℕ)) (before n
   by_said (Err WriteFault) s = cut s.0 s.1
   by_said (Err Memory) s = none s
   by_said (Err Differs) s = absurd s
+  by_said (Err SecondText) s = absurd s
 
   pub by_end : (end : End) → Tells text usual old new before now end → P end
   by_end end t = subst P (sym t.ends) (by_said t.said t.says)
@@ -145,3 +146,4 @@ module _ (told : List ℕ → Option (List ℕ)) (old new : Option (List ℕ)) (
       replayed Memory (inl same) = inl same
       replayed Memory (inr w) = inr (w.0, inr (K, schedule, runs, w.1), w.2)
       replayed Differs r = absurd r
+      replayed SecondText r = absurd r

@@ -9,7 +9,7 @@ use Rattle.proxy_core.proofs.Promises.{every_past_matches}
 use Rattle.journal_text.specs.declared.line_kind.LineKind.{LineKind}
 use Rattle.proxy.specs.declared.end.End.{End}
 use Rattle.proxy.specs.declared.end.End.TheVariants.{Done, Usage, Config, Schedule, ReadFault}
-use Rattle.proxy.specs.declared.end.End.TheVariants.{WriteFault, Memory, Differs}
+use Rattle.proxy.specs.declared.end.End.TheVariants.{WriteFault, Memory, Differs, SecondText}
 use Rattle.proxy.specs.declared.replay.Replay.{Replay}
 use Rattle.proxy.specs.End.{end_unless}
 use Rattle.proxy.specs.Replay.{notes_text, accepted, connections_text, conns_text, report_text}
@@ -59,6 +59,7 @@ fault_replayed C schedule old new before between now ReadFault h f w = absurd f
 fault_replayed C schedule old new before between now WriteFault h f w = (rose_earlier before between now h f, w)
 fault_replayed C schedule old new before between now Memory h f w = inr w
 fault_replayed C schedule old new before between now Differs h f w = absurd f
+fault_replayed C schedule old new before between now SecondText h f w = absurd f
 
 -- by what became of the end of the report
 ended : (C : configured.Config) (schedule : List ℕ) (r : Replay) (text rest : List ℕ) (number : ℕ) (last : Result (List ℕ) want.Memory) (old mid new : Option (List ℕ)) (before between now : ℕ) (end : End) (res : Result (Unit {0}) End) → schedule ≡ text ++ rest

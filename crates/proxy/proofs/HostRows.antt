@@ -15,7 +15,7 @@ call verb name = script (trees_of (command verb (trees_of (text name ∷ text (c
 
 record Rows : Type 0 where
   -- after p
-  host : is_built false (call Named (codes "after")) ≡ false
+  host : is_built false (call Named (codes "after")) ≡ true
   -- table p
   table : is_built false (call Named (codes "table")) ≡ true
   -- clock p
@@ -37,8 +37,8 @@ record Rows : Type 0 where
   chosen : is_built true (call Named (codes "pool")) ≡ true
   gathered : is_built true (call Named (codes "HTTP::collect")) ≡ true
   logged : is_built true (call Named (codes "log")) ≡ true
-  -- afte\x72 p: a name with a backslash is a name when the command runs
-  backslash : is_built false (call Computed (codes "after")) ≡ true
+  -- HTTP::ur\x69 p: a name with a backslash is a name when the command runs
+  backslash : is_built false (call Computed (codes "HTTP::uri")) ≡ true
 
 rows : Rows
 unfolding is_host_name is_built_name

@@ -24,6 +24,7 @@ pub mod WholeReading
 pub mod Completing
 pub mod NoteLines
 pub mod JournalRead
+mod SecondTexts
 pub mod Serving
 pub mod HostNames
 pub mod HostRows

@@ -22,7 +22,7 @@ use Rattle.proxy.specs.declared.mirror_command.MirrorTexts.{MirrorTexts}
 use Rattle.proxy.specs.Command.{MirrorNames}
 use Rattle.proxy.specs.Loads.{LoadsSome}
 use Rattle.proxy.specs.Mirroring.{AreTexts, FollowsPlan, HasRows, IsMirror, IsMirrorText, IsOneJournal, MirrorsFiles, MirrorsTo, NamesMoment, OfMoments, TellsMade, TellsSome, outcome_end, outcome_text}
-use Rattle.proxy.specs.Offline.{end_of_read}
+use Rattle.proxy.specs.End.{end_of_read}
 use Rattle.proxy.specs.Recorded.{FaultsRecord, TellsLineFault}
 use Rattle.proxy.specs.Report.{text_fault}
 use Rattle.proxy.specs.Says.{Refuses}
@@ -107,7 +107,7 @@ module _ (rows : ℕ) (record_text plan : List ℕ) (old new : Option (List ℕ)
 -- ---- of a text that was made
 
 module _ (old new : Option (List ℕ)) (before now : ℕ) where
-  made_told : (IsDue : List ℕ → End → Type 0) (usual : End) (line : Result (List ℕ) want.Memory) → IfOk line (λ text. IsDue text usual) → (end : End) → TellsMade line usual old new before now end → TellsSome IsDue old new before now end
+  pub made_told : (IsDue : List ℕ → End → Type 0) (usual : End) (line : Result (List ℕ) want.Memory) → IfOk line (λ text. IsDue text usual) → (end : End) → TellsMade line usual old new before now end → TellsSome IsDue old new before now end
   made_told IsDue usual (Ok text) due end t = inl (record { text = text; usual = usual; due = due; tells = t })
   made_told IsDue usual (Err w) due end t = inr t
 

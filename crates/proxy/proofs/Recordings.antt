@@ -6,10 +6,10 @@ use Rattle.journal_value.specs.Journal.{FirstFault}
 use Rattle.px_outside.specs.Outside.{Rose}
 use Rattle.px_outside.specs.declared.failed.Failed.{Failed}
 use Rattle.px_outside.specs.declared.failed.Failed.TheVariants as failed
-use Rattle.proxy.specs.Offline.{end_of_read}
+use Rattle.proxy.specs.End.{end_of_read}
 use Rattle.journal_value.specs.declared.journal.LineFault.{LineFault}
 use Rattle.proxy.specs.declared.end.End.{End}
-use Rattle.proxy.specs.declared.end.End.TheVariants.{Done, Usage, Config, Schedule, ReadFault, WriteFault, Memory, Differs}
+use Rattle.proxy.specs.declared.end.End.TheVariants.{Done, Usage, Config, Schedule, ReadFault, WriteFault, Memory, Differs, SecondText}
 use Rattle.proxy.specs.Recorded.{FaultsRecord, IsRecordText, ReportsFile, TellsLineFault, TellsRecord, WritesRecordText}
 use Rattle.proxy.specs.Report.{text_fault}
 use Rattle.proxy.specs.Says.{Tells}
@@ -46,6 +46,7 @@ module _ (told : List ℕ → Option (List ℕ)) (old new : Option (List ℕ)) (
   record_read record_text is WriteFault t = record { record_text = record_text; contents = is; tells = t }
   record_read record_text is Memory t = inr (record { record_text = record_text; contents = is; tells = t })
   record_read record_text is Differs t = absurd t
+  record_read record_text is SecondText t = absurd t
 
   pub record_unread : (why : Failed) → (why ≡ failed.Failed → Rose rb rn) → new ≡ old → ReportsFile name told old new rb rn b n (end_of_read why)
   record_unread failed.Failed rose same = (rose refl, same)

@@ -9,7 +9,7 @@ use Rattle.std.proofs.lemmas.List.{take-append-le}
 use Rattle.std.proofs.lemmas.Grind.{flat_map-append}
 use Rattle.px_bytes.specs.declared.addr.Side.TheVariants.{Client, Server}
 use Rattle.core_events.specs.declared.note.Note.{Note}
-use Rattle.core_events.specs.declared.event_kind.EventKind.TheVariants.{Runs, Ticks, Turns, Marks}
+use Rattle.core_events.specs.declared.event_kind.EventKind.TheVariants.{Runs, Turns, Marks}
 use Rattle.core_events.specs.declared.input.Input.TheVariants.{Bytes, Ends, Resets, Connects}
 use Rattle.conn_trace.specs.Heard.{Heard, hears}
 use Rattle.conn_trace.specs.Item.{Item, to_client, to_server, client_output, server_output}
@@ -17,7 +17,7 @@ use Rattle.conn_trace.proofs.Hearing.{others_not_heard}
 use Rattle.proxy_core.specs.Calls.{asker}
 use Rattle.record_model.specs.History.{store_of}
 use Rattle.proxy_core.specs.Moves.{Moves, Rests}
-use Rattle.proxy_core.specs.Moves.{MovesRing, MovesQueue, RunsOn, RunsOut, RunsFailed}
+use Rattle.proxy_core.specs.Moves.{MovesRing, MovesQueue, MovesTick, RunsOn, RunsOut, RunsFailed}
 use Rattle.core_events.specs.Kinds.{kind_of}
 use Rattle.record_model.specs.Past.{Happened, Past, heard, with_accepted, shared}
 use Rattle.proxy_core.specs.Refusal.{refused, refusal}
@@ -34,7 +34,7 @@ use Rattle.core_events.specs.declared.event.Event.TheVariants.{Tick, Turn, Run, 
 use Rattle.proxy_core.specs.Others.{front}
 use Rattle.proxy_core.proofs.Hearing.{run_stays, turn_stays}
 use Rattle.proxy_core.proofs.Members.{eq_self, eq_same}
-use Rattle.proxy_core.proofs.SoundPast.{front_served, unchanged}
+use Rattle.proxy_core.proofs.SoundPast.{front_served, seen_tick, unchanged}
 use Rattle.proxy.specs.declared.taken.Taken.{Taken}
 use Rattle.proxy_core.specs.Servers.{makes, servers_made, took_of as took_of_number}
 use Rattle.proxy.specs.Replay.{accepted, taken_by, taken_of}
@@ -75,7 +75,7 @@ front_kept C past s next c rest group v k =
     (by_failed to_client (heard c past).client.took v.within.client (heard c past).failed k)
     (λ j. by_failed (to_server j) (took_of_number (heard c past).connects j) (v.within.servers j) (heard c past).failed k)
   where
-    by_failed : (f : Item → List ℕ) (t : ℕ) → t ≤ length (flat_map f (s.places c)) → (b : Bool) → MatchBool b (RunsFailed (heard c past) c rest group s next) (RunsOn C (heard c past) c rest group s next ⊎ RunsOut C (heard c past) c rest group s next)
+    by_failed : (f : Item → List ℕ) (t : ℕ) → t ≤ length (flat_map f (s.places c)) → (b : Bool) → MatchBool b (RunsFailed (heard c past) c rest group s next) (RunsOn C (heard c past) (shared past).moment c rest group s next ⊎ RunsOut C (heard c past) c rest group s next)
         → take t (flat_map f (next.places c)) ≡ take t (flat_map f (s.places c))
     by_failed f t le true j = ap (λ y. take t (flat_map f (y.places c))) j.state
     by_failed f t le false (inl j) = ap (λ y. take t (flat_map f (y.places c))) j.state ∙ ap (λ b. take t (flat_map f (if b then s.places c ++ j.more else s.places c))) (eq_self c) ∙ grown_by f t (s.places c) j.more le
@@ -87,6 +87,12 @@ quiet_kept : (past : Past) (s next : State) (e : Event) (group : List Note) (q :
 quiet_kept past s next e group q m same live none =
     let x : Happened = record { event = e; group = group } in
     ap (λ n. kept_of q n (seen (x ∷ past) next q)) (let k : servers_made q (x ∷ past) ≡ servers_made q past = omega (arith, none) in k) ∙ ap (kept_of q (servers_made q past)) (unchanged past (kind_of e) group s next q m same live)
+
+-- a Tick
+tick_kept : (past : Past) (s next : State) (moment : ℕ) (group : List Note) (q : ℕ) → MovesTick moment group s next → taken_by (record { event = Tick moment; group = group } ∷ past) next q ≡ taken_by past s q
+tick_kept past s next moment group q m =
+    let x : Happened = record { event = Tick moment; group = group } in
+    ap (λ n. kept_of q n (seen (x ∷ past) next q)) (let k : servers_made q (x ∷ past) ≡ servers_made q past = omega arith in k) ∙ ap (kept_of q (servers_made q past)) (seen_tick past moment group s next q m)
 
 run_kept : (C : Config) (past : Past) (s next : State) (group : List Note) → Sound C past s → Moves C past (record { event = Run; group = group }) s next
     → (ring : List ℕ) → s.ring ≡ ring → MovesRing C past ring group s next → (q : ℕ) → taken_by (record { event = Run; group = group } ∷ past) next q ≡ taken_by past s q
@@ -145,7 +151,7 @@ taken_kept C past s next core e group r h k m =
     by_event (ServerReset c) h k m = came_kept C past s next c (Resets Server) (ServerReset c) group refl tt m
     by_event (ClientTook c n) h k m = took_kept C past s next core c n Client (ClientTook c n) group refl r k m
     by_event (ServerTook c n) h k m = took_kept C past s next core c n Server (ServerTook c n) group refl r k m
-    by_event (Tick moment) h k m = rests_kept past s next (Tick moment) group m refl (λ q y. others_not_heard q y (Ticks moment) [] refl refl) (λ q. refl)
+    by_event (Tick moment) h k m = sym (same_each past (record { event = Tick moment; group = group } ∷ past) s next (accepted past) (λ q. tick_kept past s next moment group q m))
     by_event Turn h k m = sym (same_each past (record { event = Turn; group = group } ∷ past) s next (accepted past) (turn_kept C past s next group m s.queue refl m))
     by_event Run h k m = sym (same_each past (record { event = Run; group = group } ∷ past) s next (accepted past) (run_kept C past s next group r.sound m s.ring refl m))
     by_event (Mark pool member up) h k m = rests_kept past s next (Mark pool member up) group m refl (λ q y. others_not_heard q y (Marks pool member up) [] refl refl) (λ q. refl)

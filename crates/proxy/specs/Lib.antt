@@ -20,4 +20,5 @@ pub mod Offline
 pub mod Serving
 pub mod Journal
 pub mod HostCommands
+pub mod SecondText
 pub mod ServeWords

@@ -6,7 +6,7 @@ use Rattle.toml.specs.Data.{Members}
 use Rattle.toml_text.specs.Text.{IsTextOf}
 use Rattle.proxy.specs.declared.end.End.{End}
 use Rattle.proxy.specs.declared.end.End.TheVariants.{Done, Usage, Config, Schedule, ReadFault}
-use Rattle.proxy.specs.declared.end.End.TheVariants.{WriteFault, Memory, Differs}
+use Rattle.proxy.specs.declared.end.End.TheVariants.{WriteFault, Memory, Differs, SecondText}
 use Rattle.proxy.specs.Loads.{IsUnread}
 use Rattle.proxy.specs.Says.{TellsFault}
 use Rattle.proxy.specs.Written.{WritesDue}
@@ -40,3 +40,4 @@ MigratesFile name told old new reads_before reads_now before now WriteFault =
 MigratesFile name told old new reads_before reads_now before now Memory =
     (new ≡ old) ⊎ WritesDue (IsMigrationText told reads_before reads_now name) old new
 MigratesFile name told old new reads_before reads_now before now Differs = ⊥
+MigratesFile name told old new reads_before reads_now before now SecondText = ⊥

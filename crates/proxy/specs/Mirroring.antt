@@ -17,7 +17,7 @@ use Rattle.table_mirror.specs.declared.packet.MirrorStop.{MirrorStop}
 use Rattle.table_mirror.specs.declared.packet.MirrorStop.TheVariants.{NotSent, Differs as Other}
 use Rattle.proxy.specs.declared.end.End.{End}
 use Rattle.proxy.specs.declared.end.End.TheVariants.{Done, Usage, Config, Schedule, ReadFault}
-use Rattle.proxy.specs.declared.end.End.TheVariants.{WriteFault, Memory, Differs}
+use Rattle.proxy.specs.declared.end.End.TheVariants.{WriteFault, Memory, Differs, SecondText}
 use Rattle.proxy.specs.declared.mirror_command.MirrorTexts.{MirrorTexts}
 use Rattle.proxy.specs.Command.{MirrorNames}
 use Rattle.proxy.specs.Loads.{IsUnread, Loads, LoadsSome}
@@ -137,6 +137,7 @@ MirrorsFiles names told old new reads_before reads_now before now Memory =
     (new ≡ old) ⊎ WritesDue (IsMirrorText told reads_before reads_now names) old new
 MirrorsFiles names told old new reads_before reads_now before now Differs =
     WritesMirror told names old new Differs
+MirrorsFiles names told old new reads_before reads_now before now SecondText = ⊥
 
 -- ---- what is told
 

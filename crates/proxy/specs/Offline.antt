@@ -8,16 +8,14 @@ use Rattle.config.specs.declared.fault.ConfigError.TheVariants as refused
 use Rattle.config.specs.declared.fault.ConfigFault.{ConfigFault}
 use Rattle.config.specs.declared.reader.LoadedConfig as loaded
 use Rattle.px_outside.specs.Outside.{told_more, Rose}
-use Rattle.px_outside.specs.declared.failed.Failed.{Failed}
-use Rattle.px_outside.specs.declared.failed.Failed.TheVariants as failed
 use Rattle.run_config.specs.declared.config.Config as core
 use Rattle.proxy.specs.declared.end.End.{End}
 use Rattle.proxy.specs.declared.end.End.TheVariants.{Done, Usage, Config, Schedule, ReadFault}
-use Rattle.proxy.specs.declared.end.End.TheVariants.{WriteFault, Memory, Differs}
+use Rattle.proxy.specs.declared.end.End.TheVariants.{WriteFault, Memory, Differs, SecondText}
 use Rattle.proxy.specs.Command.{Command, Checks as Checking, Explains as Explaining}
 use Rattle.proxy.specs.Command.{Replays as Replaying, Named}
 use Rattle.proxy.specs.Command.{Reports as Reporting, Migrates as Migrating, Mirrors as Mirroring}
-use Rattle.proxy.specs.Command.{command_of}
+use Rattle.proxy.specs.Command.{Imports as Importing, Exports as Exporting, command_of}
 use Rattle.proxy.specs.Explain.{explanation, loads_text}
 use Rattle.proxy.specs.Loads.{Loads, LoadsSome, IsFaulty, IsUnread}
 use Rattle.proxy.specs.Migrating.{MigratesFile}
@@ -26,12 +24,9 @@ use Rattle.proxy.specs.Recorded.{ReportsFile}
 use Rattle.proxy.specs.Report.{config_fault, ok_text, usage_fault}
 use Rattle.proxy.specs.Runnable.{IsRun, can_run}
 use Rattle.proxy.specs.Says.{Tells, TellsFault, fault_end}
+use Rattle.proxy.specs.SecondText.{ExportsFile, ImportsFile}
 use Rattle.proxy.specs.Written.{IsWritten, WritesDue, WritesFrontOf}
 use Rattle.proxy.specs.Replayed.{Replayed}
-
-abbrev pub end_of_read : Failed → End
-end_of_read failed.Failed = ReadFault
-end_of_read failed.Memory = Memory
 
 -- it loads, and what is filled of it can't be run today
 pub record IsNotBuilt (told : List ℕ → Option (List ℕ)) (name : List ℕ) : Type 0 where
@@ -69,6 +64,7 @@ ChecksFile name told old new reads_before reads_now before now WriteFault =
 ChecksFile name told old new reads_before reads_now before now Memory =
     (new ≡ old) ⊎ WritesDue (IsCheck told reads_before reads_now name) old new
 ChecksFile name told old new reads_before reads_now before now Differs = ⊥
+ChecksFile name told old new reads_before reads_now before now SecondText = ⊥
 
 -- ---- `explain CONFIG`
 
@@ -103,6 +99,7 @@ ExplainsFile name told old new reads_before reads_now before now WriteFault =
 ExplainsFile name told old new reads_before reads_now before now Memory =
     (new ≡ old) ⊎ WritesDue (IsExplanation told reads_before reads_now name) old new
 ExplainsFile name told old new reads_before reads_now before now Differs = ⊥
+ExplainsFile name told old new reads_before reads_now before now SecondText = ⊥
 
 -- ---- `replay CONFIG SCHEDULE`
 
@@ -159,6 +156,7 @@ ReplaysFiles named told old new reads_before reads_now before now WriteFault =
 ReplaysFiles named told old new reads_before reads_now before now Memory =
     (new ≡ old) ⊎ WritesDue (IsDue told reads_before reads_now named) old new
 ReplaysFiles named told old new reads_before reads_now before now Differs = ⊥
+ReplaysFiles named told old new reads_before reads_now before now SecondText = ⊥
 
 -- ---- words that are no command
 
@@ -180,6 +178,10 @@ OfCommand (Some (Explaining name)) told old new reads_before reads_now before no
     ExplainsFile name told old new reads_before reads_now before now end
 OfCommand (Some (Migrating name)) told old new reads_before reads_now before now end =
     MigratesFile name told old new reads_before reads_now before now end
+OfCommand (Some (Importing name)) told old new reads_before reads_now before now end =
+    ImportsFile name told old new reads_before reads_now before now end
+OfCommand (Some (Exporting name)) told old new reads_before reads_now before now end =
+    ExportsFile name told old new reads_before reads_now before now end
 OfCommand (Some (Reporting name)) told old new reads_before reads_now before now end =
     ReportsFile name told old new reads_before reads_now before now end
 OfCommand (Some (Replaying named)) told old new reads_before reads_now before now end =

@@ -8,7 +8,7 @@ use Rattle.journal_value.specs.declared.journal.LineFault.{LineFault}
 use Rattle.px_outside.specs.Outside.{told_more, Rose}
 use Rattle.proxy.specs.declared.end.End.{End}
 use Rattle.proxy.specs.declared.end.End.TheVariants.{Done, Usage, Config, Schedule, ReadFault}
-use Rattle.proxy.specs.declared.end.End.TheVariants.{WriteFault, Memory, Differs}
+use Rattle.proxy.specs.declared.end.End.TheVariants.{WriteFault, Memory, Differs, SecondText}
 use Rattle.proxy.specs.Report.{text_fault}
 use Rattle.proxy.specs.Says.{Tells}
 use Rattle.proxy.specs.Written.{WritesFrontOf}
@@ -43,6 +43,7 @@ TellsRecord record_text old new before now WriteFault =
 TellsRecord record_text old new before now Memory =
     (new ≡ old) ⊎ WritesRecordText record_text old new
 TellsRecord record_text old new before now Differs = ⊥
+TellsRecord record_text old new before now SecondText = ⊥
 
 -- the file is this record, and that came of it
 pub record TellsContents (told : List ℕ → Option (List ℕ)) (name : List ℕ) (old new : Option (List ℕ))

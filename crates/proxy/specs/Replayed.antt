@@ -12,7 +12,7 @@ use Rattle.core_events.specs.declared.bad_event.BadEvent.{BadEvent}
 use Rattle.journal_text.specs.declared.line_kind.LineKind.{LineKind}
 use Rattle.proxy.specs.declared.end.End.{End}
 use Rattle.proxy.specs.declared.end.End.TheVariants.{Done, Usage, Config, Schedule, ReadFault}
-use Rattle.proxy.specs.declared.end.End.TheVariants.{WriteFault, Memory, Differs}
+use Rattle.proxy.specs.declared.end.End.TheVariants.{WriteFault, Memory, Differs, SecondText}
 use Rattle.proxy.specs.declared.replay.Replay.{Replay}
 use Rattle.proxy.specs.Lines.{Reads, Faulty, IsEnd, Refuses, events_of}
 use Rattle.proxy.specs.Report.{end_text, text_fault, event_fault}
@@ -82,6 +82,7 @@ Replayed C schedule old new before now WriteFault =
     Rose before now × WritesFront C schedule old new
 Replayed C schedule old new before now Memory = (new ≡ old) ⊎ WritesFront C schedule old new
 Replayed C schedule old new before now Differs = ⊥
+Replayed C schedule old new before now SecondText = ⊥
 
 -- a fault of the end of a report, of which a prefix was written
 abbrev pub FinishFault : ℕ → ℕ → End → Type 0

@@ -83,6 +83,20 @@ abbrev pub config_fault : ℕ → List ℕ → List ℕ
 config_fault kind place =
     codes "config fault " ++ decimal kind ++ codes " at " ++ place ++ codes "\n"
 
+-- a text is no configuration in the second grammar
+abbrev pub second_place : ℕ → ℕ → List ℕ
+second_place number place =
+    codes "tmsh fault " ++ decimal number ++ codes " at " ++ decimal place ++ codes "\n"
+
+abbrev pub second_config : ℕ → List ℕ → List ℕ
+second_config number place =
+    codes "tmsh fault 3 at config " ++ decimal number ++ codes " at " ++ place ++ codes "\n"
+
+-- a configuration has no second text, for the text of this rule
+abbrev pub second_rule : ℕ → ℕ → List ℕ
+second_rule number rule =
+    codes "tmsh fault " ++ decimal number ++ codes " at rule[" ++ decimal rule ++ codes "]\n"
+
 -- a configuration loads
 abbrev pub ok_text : List ℕ
 ok_text = codes "ok\n"

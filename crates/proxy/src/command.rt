@@ -7,7 +7,7 @@ use px_bytes::{Text, Texts};
 
 /// The files that a replay reads.
 #[derive(Clone, Copy)]
-pub struct Replay<'a> {
+pub struct ReplayFiles<'a> {
     pub config: &'a [u8],
     pub schedule: &'a [u8],
 }
@@ -29,16 +29,20 @@ pub enum Command<'a> {
     Explain(&'a [u8]),
     /// Writes it in version 2.
     Migrate(&'a [u8]),
+    /// Writes the document of a second text.
+    Import(&'a [u8]),
+    /// Writes its second text.
+    Export(&'a [u8]),
     /// Says what the virtual servers of a record had.
     Report(&'a [u8]),
-    Replay(Replay<'a>),
+    Replay(ReplayFiles<'a>),
     /// Feeds a standby of the session table of a record, as a plan says.
     Mirror(MirrorFiles<'a>),
 }
 
 /// The command that the words are; None exactly where they are none of `check CONFIG`, `explain
-/// CONFIG`, `migrate CONFIG`, `report RECORD`, `replay CONFIG SCHEDULE` and `mirror CONFIG RECORD
-/// PLAN`.
+/// CONFIG`, `migrate CONFIG`, `import FILE`, `export CONFIG`, `report RECORD`, `replay CONFIG
+/// SCHEDULE` and `mirror CONFIG RECORD PLAN`.
 pub fn command_of(words: &Texts) -> Option<Command<'_>>
     ensures { option_map command_view result ≡ command_of words.now }
 {
@@ -52,13 +56,19 @@ pub fn command_of(words: &Texts) -> Option<Command<'_>>
         [command, config] if command.as_bytes() == b"migrate".as_slice() && is_name(config) => {
             Some(Command::Migrate(config.as_bytes()))
         }
+        [command, text] if command.as_bytes() == b"import".as_slice() && is_name(text) => {
+            Some(Command::Import(text.as_bytes()))
+        }
+        [command, config] if command.as_bytes() == b"export".as_slice() && is_name(config) => {
+            Some(Command::Export(config.as_bytes()))
+        }
         [command, record] if command.as_bytes() == b"report".as_slice() && is_name(record) => {
             Some(Command::Report(record.as_bytes()))
         }
         [command, config, schedule]
             if command.as_bytes() == b"replay".as_slice() && is_name(config) && is_name(schedule) =>
             {
-                Some(Command::Replay(Replay {
+                Some(Command::Replay(ReplayFiles {
                     config: config.as_bytes(),
                     schedule: schedule.as_bytes(),
                 }))

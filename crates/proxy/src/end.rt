@@ -23,6 +23,8 @@ pub enum End {
     Memory,
     /// A standby of the session table gave another reply than the record.
     Differs,
+    /// A text is no configuration in the second grammar, or a configuration has no such text.
+    SecondText,
 }
 
 impl End {
@@ -51,6 +53,7 @@ impl End {
             End::WriteFault => 6,
             End::Memory => 7,
             End::Differs => 10,
+            End::SecondText => 11,
         })
     }
 }

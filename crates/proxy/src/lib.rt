@@ -20,6 +20,7 @@ mod report_command;
 mod run_schedule;
 mod runnable;
 mod say;
+mod second_text;
 mod serve;
 mod serve_words;
 mod server_bytes;

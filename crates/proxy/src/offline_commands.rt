@@ -4,13 +4,13 @@ ghost use Rattle.std.specs.Prelude.{◌≡◌};
 ghost use Rattle.config.specs.declared.fault.ConfigError.TheVariants.{Fault as Told};
 ghost use Rattle.proxy.specs.Command.{named_of};
 ghost use Rattle.proxy.specs.Complete.{Completes};
-ghost use Rattle.proxy.specs.End.{status_of};
-ghost use Rattle.proxy.specs.Offline.{ChecksFile, Offline, ReplaysFiles, end_of_read};
+ghost use Rattle.proxy.specs.End.{end_of_read, status_of};
+ghost use Rattle.proxy.specs.Offline.{ChecksFile, Offline, ReplaysFiles};
 ghost use Rattle.proxy.specs.Report.{config_fault};
 ghost use Rattle.proxy.specs.Says.{Refuses, Says, Tells};
 ghost use Rattle.proxy.specs.declared.end.End.TheVariants.{Config};
 
-use crate::command::{Command, Replay, command_of};
+use crate::command::{Command, ReplayFiles, command_of};
 use crate::end::{End, Status};
 use crate::explain_command::explain;
 use crate::migrate_command::migrate;
@@ -20,6 +20,7 @@ use crate::report_command::report;
 use crate::run_schedule::replay;
 use crate::runnable::core_config;
 use crate::say::{is_read_fault, say};
+use crate::second_text::{export, import};
 use config::{ConfigError, ConfigFault, read_config};
 use px_bytes::Texts;
 use px_outside::{Failed, Files, Sink};
@@ -52,6 +53,8 @@ fn run<F: Files, K: Sink>(alloc: Global, words: &Texts, files: &mut F, out: &mut
         Some(Command::Check(name)) => check(alloc, name, files, out),
         Some(Command::Explain(name)) => explain(alloc, name, files, out),
         Some(Command::Migrate(name)) => migrate(alloc, name, files, out),
+        Some(Command::Import(name)) => import(alloc, name, files, out),
+        Some(Command::Export(name)) => export(alloc, name, files, out),
         Some(Command::Report(name)) => report(alloc, name, files, out),
         Some(Command::Replay(named)) => replay_files(alloc, named, files, out),
         Some(Command::Mirror(named)) => mirror(alloc, named, files, out),
@@ -73,7 +76,7 @@ fn check<F: Files, K: Sink>(alloc: Global, name: &[u8], files: &mut F, out: &mut
 // Reads both files, and replays the schedule where the configuration loads and can be run.
 fn replay_files<F: Files, K: Sink>(
     alloc: Global,
-    named: Replay<'_>,
+    named: ReplayFiles<'_>,
     files: &mut F,
     out: &mut K,
 ) -> End

@@ -4,7 +4,8 @@ ghost use Rattle.std.specs.Prelude.{◌≡◌, IfOk, string_bytes};
 ghost use Rattle.proxy.specs.Report.{kind_number, refusal_number, client_text, server_text};
 ghost use Rattle.proxy.specs.Report.{open_text, end_text};
 ghost use Rattle.proxy.specs.Report.{text_fault, event_fault, plan_fault, mirror_differs};
-ghost use Rattle.proxy.specs.Report.{config_fault, ok_text, usage_fault};
+ghost use Rattle.proxy.specs.Report.{config_fault, ok_text, second_config, second_place};
+ghost use Rattle.proxy.specs.Report.{second_rule, usage_fault};
 
 use journal_text::LineKind;
 use proxy_core::BadEvent;
@@ -72,6 +73,30 @@ fn refusal_number(why: BadEvent) -> u8
     ensures { result ≡ refusal_number why }
 {
     why as u8
+}
+
+/// A text is no configuration in the second grammar, of which this fault stands at this place.
+pub fn second_place_line(alloc: Global, number: u8, place: usize) -> M<Text>
+    ensures { IfOk result (λ text. text ≡ second_place number place) }
+{
+    Ok(text_of(format!(in alloc; "tmsh fault {number} at {place}\n")?))
+}
+
+/// The table of a text has this fault.
+pub fn second_config_line(alloc: Global, number: u8, place: &[u8]) -> M<Text>
+    ensures { IfOk result (λ text. text ≡ second_config number place.now) }
+{
+    let mut line = text_of(format!(in alloc; "tmsh fault 3 at config {number} at ")?);
+    line.push(place)?;
+    line.push(b"\n")?;
+    Ok(line)
+}
+
+/// A configuration has no second text, for the text of this rule.
+pub fn second_rule_line(alloc: Global, number: u8, rule: usize) -> M<Text>
+    ensures { IfOk result (λ text. text ≡ second_rule number rule) }
+{
+    Ok(text_of(format!(in alloc; "tmsh fault {number} at rule[{rule}]\n")?))
 }
 
 /// A mirror can't go on: of a line of its plan, 1: the packet wasn't sent yet; of a line of its record, 2: the moment

@@ -14,7 +14,7 @@ use crate::interim_rules::is_built;
 use config::LoadedConfig;
 use event_order::EventName;
 use px_bytes::M;
-use rule_loader::{Handler, Rule};
+use rule_loader::{EventHandler, Rule};
 use run_config::{Config, Persist, Virtual};
 use std::alloc::Global;
 use tcl_trees::Procs;
@@ -28,7 +28,7 @@ fn has_built_bodies(http: bool, rule: &Rule, event: EventName) -> bool
     are_bodies_built(http, rule.handlers(event).as_slice())
 }
 
-fn are_bodies_built(http: bool, handlers: &[Handler]) -> bool
+fn are_bodies_built(http: bool, handlers: &[EventHandler]) -> bool
     ensures { result ≡ list_all (λ h. is_built http (node_view h.body)) handlers.now }
 {
     handlers.iter().all(|handler| is_built(http, &handler.body))

@@ -13,7 +13,7 @@ use Rattle.conn.specs.declared.connection.Conn.{Conn}
 use Rattle.conn.specs.declared.setup.Place.{Place}
 use Rattle.proxy_core.specs.Bodies.{all_places}
 use Rattle.proxy_core.specs.Changes as code
-use Rattle.proxy_core.specs.Calls.{is_any}
+use Rattle.proxy_core.specs.Calls.{is_any, sleepers_of}
 use Rattle.record_model.specs.History.{store_of, store_after}
 use Rattle.proxy_core.specs.Live.{KeepsPlace, asks_in, edges_by_conn, edges_in}
 use Rattle.proxy_core.specs.Moves.{MovesBy}
@@ -21,7 +21,7 @@ use Rattle.record_model.specs.Past.{Past, ended_in, without_all, with_accepted, 
 use Rattle.proxy_core.specs.Ready.{numbers, is_in, without}
 use Rattle.record_model.specs.Setup.{virtual_place}
 use Rattle.proxy_core.specs.Refusals.{live_at}
-use Rattle.proxy_core.specs.Represents.{ConnectionContinues, AgreesLive, AgreesAt, AgreesBy, Represents}
+use Rattle.proxy_core.specs.Represents.{AgreesAsleep, ConnectionContinues, AgreesLive, AgreesAt, AgreesBy, Represents}
 use Rattle.proxy_core.specs.Scheduler.{State, Seen, seen_after}
 use Rattle.proxy_core.specs.Serving.{Serves}
 use Rattle.record_model.specs.Setup.{statics_of, setup_of, handlers_in, setup_in, name_at, name_in, pool_in, http_in, port_in}
@@ -52,10 +52,10 @@ pub record After (C : Config) (past : Past) (s : State) (v : EventKind) (group :
 
 -- every event: what its own connection owes is enough
 pub assemble : (C : Config) (past : Past) (s next : State) (v : EventKind) (group : List Note) (old new : Core) → Represents C past s old → MovesBy C past v group s next → code.KeepsConfig old new
-    → new.last ≡ last_after v old.last → new.moment ≡ moment_after v old.moment → numbers new.live.items ≡ without_all (ended_in group) (with_accepted v (numbers old.live.items)) → new.live.ring ≡ next.ring → new.queue.items ≡ next.queue → new.store ≡ store_after v group old.store
+    → new.last ≡ last_after v old.last → new.moment ≡ moment_after v old.moment → numbers new.live.items ≡ without_all (ended_in group) (with_accepted v (numbers old.live.items)) → new.live.ring ≡ next.ring → new.queue.items ≡ next.queue → AgreesAsleep next.asleep new.queue.asleep → new.store ≡ store_after v group old.store
     → ((q : ℕ) → nat_eq (about v s) q ≡ false → live_at new.live.items q ≡ live_at old.live.items q)
     → AgreesAt C (seen_after past v group next (about v s)) (live_at new.live.items (about v s)) → After C past s v group new
-assemble C past s next v group old new r moves keeps last moment live ring queue store others own =
+assemble C past s next v group old new r moves keeps last moment live ring queue asleep store others own =
     let make : ℕ → ℕ → List ℕ → Shared = λ l m ns. record { last = l; moment = m; live = ns } in
     record {
       next = next;
@@ -69,6 +69,7 @@ assemble C past s next v group old new r moves keeps last moment live ring queue
         store_is = store ∙ ap (store_after v group) r.agrees.store_is;
         ring = ring;
         queue = queue;
+        asleep = asleep;
         each = each_by (λ q z o. AgreesAt C z o) (λ q. live_at old.live.items q) (λ q. live_at new.live.items q) (about v s) past v group s next (only_changed past v group s next (touches C past v group s next moves)) others r.agrees.each own;
       };
     }
@@ -195,6 +196,6 @@ accepts C past s old new c vs from group r h k =
     let Q : Option Live → Type 0 = λ o. AgreesAt C (fresh c a failed) o in
     assemble C past s next v group old new r moves k.keeps k.last k.moment
     (ap numbers k.live ∙ numbers_push old.live.items l ∙ sym (first_live c failed group (numbers old.live.items ++ c ∷ []) b.notes))
-    (k.ring ∙ ap (λ ns. ns ++ c ∷ []) r.agrees.ring) (k.queue ∙ r.agrees.queue) k.store
+    (k.ring ∙ ap (λ ns. ns ++ c ∷ []) r.agrees.ring) (k.queue ∙ r.agrees.queue) (λ q. ap (sleepers_of q) k.asleep ∙ r.agrees.asleep q) k.store
     (λ q e. ap (λ ls. live_at ls q) k.live ∙ live_pushed_other q old.live.items l e)
     (subst P (sym (seen_accept past c a failed group s next u b.notes refl)) (subst Q (sym there) (record { live = refl; continues = b.continues; serves = serves_named C vs from k.place place_is; edges = b.edges; asking = b.asks })))

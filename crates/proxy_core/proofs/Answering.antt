@@ -18,12 +18,11 @@ use Rattle.conn_trace.specs.Tellings.{own, replies_told, notes_about}
 use Rattle.core_events.specs.declared.edges.Edges.{Edges}
 use Rattle.core_events.specs.Edges.{edges_noted}
 use Rattle.conn_trace.specs.Heard.{edges_met, taken}
-use Rattle.conn.specs.RunsItems.{told_behind}
 use Rattle.conn_trace.specs.Trace.{next_item}
 use Rattle.conn.specs.Settling.{closing, is_over, settling_at, took_all, given_up_at}
 use Rattle.shared_store.specs.Calls.{reply}
 use Rattle.record_model.specs.History.{entries_in, store_of, IsAnswer, AreAnswers, IsHistory}
-use Rattle.proxy_core.specs.Moves.{MovesFailed, MovesLacks, MovesOn, MovesCome, MovesRing, MovesBy, MovesQueue, TurnNotes, RunsOn, RunsOut, RunsFailed, Leads}
+use Rattle.proxy_core.specs.Moves.{MovesFailed, MovesLacks, MovesOn, MovesCome, MovesRing, MovesBy, MovesQueue, TurnNotes, RunsOn, RunsOut, RunsFailed, Leads, told_last}
 use Rattle.core_events.specs.Kinds.{kind_of}
 use Rattle.record_model.specs.Past.{Past, heard, shared}
 use Rattle.proxy_core.specs.Scheduler.{State, untaken_all}
@@ -31,8 +30,8 @@ use Rattle.record_model.specs.Setup.{setup_of, stand_of}
 use Rattle.proxy_core.specs.declared.call.Asked.{Asked}
 use Rattle.run_config.specs.declared.config.Config.{Config}
 use Rattle.proxy_core.proofs.Besides.{replies_are}
-use Rattle.proxy_core.proofs.GroupNotes.{entries_on, due_entries, closing_due, settling_due}
-use Rattle.proxy_core.proofs.RunOn.{told_due}
+use Rattle.proxy_core.proofs.GroupNotes.{entries_on, due_entries, closing_due, settling_due, whole_notes}
+use Rattle.proxy_core.proofs.RunOn.{last_due}
 use Rattle.conn.specs.Servers.{run_notes}
 use Rattle.conn_trace.specs.Gates.{Counts, TakenCounts}
 use Rattle.proxy_core.proofs.RunNotes.{entries_runs, of_runs}
@@ -57,7 +56,7 @@ ring_answers : (C : Config) (past : Past) (ring : List ℕ) (group : List Note) 
 ring_answers C past [] group old new m = no_entries C past Runs group [] m.0 refl
 ring_answers C past (c ∷ rest) group old new m = by_failed (heard c past).failed m
   where
-    by_failed : (b : Bool) → MatchBool b (RunsFailed (heard c past) c rest group old new) (RunsOn C (heard c past) c rest group old new ⊎ RunsOut C (heard c past) c rest group old new) → AreAnswers C past Runs (entries_in group)
+    by_failed : (b : Bool) → MatchBool b (RunsFailed (heard c past) c rest group old new) (RunsOn C (heard c past) (shared past).moment c rest group old new ⊎ RunsOut C (heard c past) c rest group old new) → AreAnswers C past Runs (entries_in group)
     by_failed true k =
         let e = (heard c past).edges in
         let d = untaken_all (heard c past) (old.places c) in
@@ -68,8 +67,9 @@ ring_answers C past (c ∷ rest) group old new m = by_failed (heard c past).fail
         let notes = run_notes c sent (taken h) k.more in
         let e = edges_noted notes h.edges in
         let d = untaken_all h (old.places c ++ k.more) in
-        let behind = told_behind k.turn (setup_of C h) (taken h) k.at c e d in
-        no_entries C past Runs group (notes ++ behind) k.items.noted (run_entries c sent (taken h) k.more behind (due_entries c behind (told_due k.turn (setup_of C h) (taken h) k.at c e d)))
+        let m = (shared past).moment in
+        let behind = told_last k.turn (setup_of C h) (taken h) k.at c e d m in
+        no_entries C past Runs group (notes ++ behind) (whole_notes k.turn c m group k.told notes _ k.notes k.items.noted) (run_entries c sent (taken h) k.more behind (due_entries c behind (last_due k.turn (setup_of C h) (taken h) k.at c e d m)))
     by_failed false (inr k) =
         let h = heard c past in
         let sent = (stand_of C h (old.places c)).sent in
@@ -111,10 +111,10 @@ accept_answers : (C : Config) (past : Past) (c : ℕ) (v : EventKind) (group : L
 accept_answers C past c v group (inl k) = no_entries C past v group [] k refl
 accept_answers C past c v group (inr k) = no_entries C past v group (Finish c Memory ∷ []) k refl
 
-are_answers : (C : Config) (past : Past) (v : EventKind) (group : List Note) (old new : State) → MovesBy C past v group old new → AreAnswers C past v (entries_in group)
+pub are_answers : (C : Config) (past : Past) (v : EventKind) (group : List Note) (old new : State) → MovesBy C past v group old new → AreAnswers C past v (entries_in group)
 are_answers C past (Accepts c vs from) group old new m = accept_answers C past c (Accepts c vs from) group m.notes
 are_answers C past (Comes c input) group old new m = input_answers C past c input group old new m
-are_answers C past (Ticks moment) group old new m = no_entries C past (Ticks moment) group [] m.0 refl
+are_answers C past (Ticks moment) group old new m = no_entries C past (Ticks moment) group [] m.notes refl
 are_answers C past Turns group old new m = queue_answers C past old.queue group old new m
 are_answers C past Runs group old new m = ring_answers C past old.ring group old new m
 are_answers C past (Marks pool member up) group old new m = no_entries C past (Marks pool member up) group [] m.0 refl

@@ -4,7 +4,7 @@ use Rattle.std.specs.Prelude.{option_and_then, slice_get, slice_index_or}
 use Rattle.event_order.specs.declared.event.EventName.{EventName}
 use Rattle.event_order.specs.declared.event.EventName.TheVariants as event
 use Rattle.rule_loader.specs.Handlers.{handlers_at}
-use Rattle.rule_loader.specs.declared.handler.Handler as loaded
+use Rattle.rule_loader.specs.declared.handler.EventHandler as loaded
 use Rattle.rule_loader.specs.declared.rule.Rule.{Rule}
 use Rattle.conn.specs.Setups.{body_in, body_of, handler_view, places_in}
 use Rattle.conn.specs.declared.setup.Place.{Place}
@@ -55,7 +55,7 @@ module _ (rules : List Rule) (e : EventName) where
   sorted_found (p ∷ ps) (b ∷ bs) f = put_found p b (by_priority place_priority ps) (by_priority (λ b. b.priority) bs) f.0 (sorted_found ps bs f.1)
 
   -- those of a rule
-  placed_found : (n : ℕ) (r : Rule) (from : ℕ) (hs : List loaded.Handler) → slice_get rules n ≡ Some r → ((k : ℕ) → slice_get (handlers_at e r.bodies) (from + k) ≡ slice_get hs k) → AllFound rules e (placed n from hs) (map (body_view r) hs)
+  placed_found : (n : ℕ) (r : Rule) (from : ℕ) (hs : List loaded.EventHandler) → slice_get rules n ≡ Some r → ((k : ℕ) → slice_get (handlers_at e r.bodies) (from + k) ≡ slice_get hs k) → AllFound rules e (placed n from hs) (map (body_view r) hs)
   placed_found n r from [] is all = tt
   placed_found n r from (h ∷ hs) is all =
       let here : from ≡ from + 0 = omega arith in

@@ -35,13 +35,14 @@ use Rattle.core_events.specs.declared.note.Note.TheVariants.{Finish}
 use Rattle.conn_trace.proofs.Hearing.{event_stands, finished_stands, others_not_heard}
 use Rattle.conn_trace.proofs.PendingFits.{pending_bounded}
 use Rattle.conn_trace.proofs.Lying.{Lies, allowed, start_lies}
-use Rattle.conn.specs.RunsItems.{Passes, told_behind}
+use Rattle.conn.specs.RunsItems.{Passes}
 use Rattle.conn.specs.Settling.{closing, is_over, settling_at, took_all, given_up_at}
 use Rattle.proxy_core.specs.Bounds.{BytesAreBounded}
-use Rattle.proxy_core.specs.Calls.{asker, calls_of}
+use Rattle.proxy_core.specs.Calls.{asker}
+use Rattle.record_model.proofs.FewRows.{rows_are_few}
 use Rattle.record_model.specs.History.{store_of}
 use Rattle.proxy_core.specs.Live.{entry_note}
-use Rattle.proxy_core.specs.Moves.{MovesFailed, MovesLacks, MovesOn, MovesCome, MovesRing, MovesFront, MovesQueue, Rests, TurnNotes, MovesBy, RunsOn, RunsOut, RunsFailed, Leads}
+use Rattle.proxy_core.specs.Moves.{MovesFailed, MovesLacks, MovesOn, MovesCome, MovesRing, MovesFront, MovesQueue, Rests, TurnNotes, MovesBy, RunsOn, RunsOut, RunsFailed, Leads, told_last}
 use Rattle.proxy_core.specs.Others.{about, front}
 use Rattle.core_events.specs.Kinds.{kind_of}
 use Rattle.record_model.specs.Past.{Past, heard, shared}
@@ -56,13 +57,13 @@ use Rattle.run_config.specs.declared.config.Config.{Config}
 use Rattle.proxy_core.proofs.Setups.{heads_fit}
 use Rattle.proxy_core.proofs.Arriving.{HeldOf, Room, Waiting, held_of, lies_along, longer_lies, nothing_fits, speaks_along, waiting_at}
 use Rattle.proxy_core.proofs.CameAt.{UncutOr, heard_uncut}
-use Rattle.proxy_core.proofs.Entries.{calls_front}
+use Rattle.proxy_core.proofs.Entries.{open_front, open_with}
 use Rattle.proxy_core.proofs.Drains.{longer_orderly}
 use Rattle.proxy_core.proofs.Finished.{heard_finish, stands_orderly, trace_finished}
 use Rattle.proxy_core.proofs.Framing.{each_by, only_changed, touches}
-use Rattle.proxy_core.proofs.GroupNotes.{About, closing_due, due_about, due_choices, due_cut, due_quiet, due_replies, quiet_by, quiet_finish, settling_due, tells_all}
+use Rattle.proxy_core.proofs.GroupNotes.{About, closing_due, due_about, due_choices, due_cut, due_quiet, due_replies, quiet_by, quiet_finish, settling_due, tells_all, whole_notes}
 use Rattle.proxy_core.proofs.Members.{eq_self}
-use Rattle.proxy_core.proofs.RunOn.{told_due}
+use Rattle.proxy_core.proofs.RunOn.{last_due}
 use Rattle.proxy_core.proofs.SoundComes.{MayCome}
 use Rattle.proxy_core.proofs.SoundAccepts.{first_notes, fresh, seen_accept}
 use Rattle.proxy_core.proofs.SoundPast.{front_served, leads_sound, marked_accepted, may_come_at, none_holds, not_accepted, ran_on}
@@ -240,7 +241,7 @@ module _ (C : Config) (past : Past) (old : State) (c : ℕ) where
       } in
       subst (λ ps. FewBytes C (hears c h Runs group) ps) (sym same) (subst (λ ns. FewBytes C (hears c h Runs ns) (place ++ more)) (sym is) there)
 
-  run_few : (rest : List ℕ) (group : List Note) (new : State) → old.ring ≡ c ∷ rest → SoundAt C c z → MovesFront C h c rest group old new → FewBytes C h place → FewBytes C (hears c h Runs group) (new.places c)
+  run_few : (rest : List ℕ) (group : List Note) (new : State) → old.ring ≡ c ∷ rest → SoundAt C c z → MovesFront C h (shared past).moment c rest group old new → FewBytes C h place → FewBytes C (hears c h Runs group) (new.places c)
   run_few rest group new ring sound m few = by_failed h.failed refl m
     where
       k : Served C c z
@@ -249,7 +250,7 @@ module _ (C : Config) (past : Past) (old : State) (c : ℕ) where
       placed : (more : List Item) → (if nat_eq c c then place ++ more else place) ≡ place ++ more
       placed more = ap (λ b. if b then place ++ more else place) (eq_self c)
 
-      by_failed : (b : Bool) → h.failed ≡ b → MatchBool b (RunsFailed h c rest group old new) (RunsOn C h c rest group old new ⊎ RunsOut C h c rest group old new) → FewBytes C (hears c h Runs group) (new.places c)
+      by_failed : (b : Bool) → h.failed ≡ b → MatchBool b (RunsFailed h c rest group old new) (RunsOn C h (shared past).moment c rest group old new ⊎ RunsOut C h c rest group old new) → FewBytes C (hears c h Runs group) (new.places c)
       by_failed true e j =
           let notes = closing c h.edges (untaken_all h place) in
           let quiet = due_quiet c notes (closing_due c h.edges (untaken_all h place)) in
@@ -257,7 +258,8 @@ module _ (C : Config) (past : Past) (old : State) (c : ℕ) where
       by_failed false e (inl j) =
           let es = edges_noted (run_notes c l.sent (taken h) j.more) h.edges in
           let d = untaken_all h (place ++ j.more) in
-          gave j.more j.at (told_behind j.turn g (taken h) j.at c es d) group new e k j.items.passes (due_quiet c _ (told_due j.turn g (taken h) j.at c es d)) j.items.noted (ap (λ s. s.places c) j.state ∙ placed j.more) few
+          let m = (shared past).moment in
+          gave j.more j.at (told_last j.turn g (taken h) j.at c es d m) group new e k j.items.passes (due_quiet c _ (last_due j.turn g (taken h) j.at c es d m)) (whole_notes j.turn c m group j.told _ _ j.notes j.items.noted) (ap (λ s. s.places c) j.state ∙ placed j.more) few
       by_failed false e (inr j) =
           let es = edges_noted (run_notes c l.sent (taken h) j.more) h.edges in
           let d = untaken_all h (place ++ j.more) in
@@ -280,7 +282,7 @@ module _ (C : Config) (past : Past) (old : State) (c : ℕ) where
 asker_served : (C : Config) (past : Past) (a : Asked) (rest : List Asked) (old : State) → old.queue ≡ a ∷ rest → SoundAt C a.conn (seen past old a.conn) → Served C a.conn (seen past old a.conn)
 asker_served C past a rest old e s =
     let z = seen past old a.conn in
-    let asked : z.asked ≡ a.call ∷ calls_of a.conn rest = ap (calls_of a.conn) e ∙ calls_front a rest in
+    let asked : z.asked ≡ a.call ∷ open_with a.conn rest (old.asleep a.conn) = open_front a rest old e in
     (is_served C a.conn z (λ u. let n = sym asked ∙ ap (λ y. y.asked) u in cc) s).1
 
 -- of one that is accepted nothing came
@@ -329,7 +331,9 @@ module _ (C : Config) (past : Past) (old : State) (sound : Sound C past old) whe
   own_few : (v : EventKind) (group : List Note) (new : State) → refused C past old v ≡ None → MovesBy C past v group old new → FewBytes C (heard (about v old) past) (old.places (about v old)) → Few new v group (about v old)
   own_few (Accepts c vs from) group new fine m few = accept_few C past old c vs from group new (not_accepted C past c vs from old sound fine) m.notes m.state
   own_few (Comes c input) group new fine m few = come_few C past old c input group new (may_come_at C past old c input (sound.each c) fine) fine m few
-  own_few (Ticks moment) group new fine m few = rest_few (Ticks moment) group new m (λ h. others_not_heard 0 h (Ticks moment) [] refl refl) few
+  own_few (Ticks moment) group new fine m few =
+      subst (λ s. FewBytes C (hears 0 (heard 0 past) (Ticks moment) group) (s.places 0)) (sym m.state)
+      (subst (λ ns. FewBytes C (hears 0 (heard 0 past) (Ticks moment) ns) (old.places 0)) (sym m.notes) (subst (λ x. FewBytes C x (old.places 0)) (sym (others_not_heard 0 (heard 0 past) (Ticks moment) [] refl refl)) few))
   own_few Turns group new fine m few = queue_few (store_of C past) (shared past).moment old.queue group new refl m few
   own_few Runs group new fine m few = ring_few old.ring group new refl m few
   own_few (Marks pool member up) group new fine m few = rest_few (Marks pool member up) group new m (λ h. others_not_heard 0 h (Marks pool member up) [] refl refl) few
@@ -356,4 +360,5 @@ bytes_bounded C past s leads c accepted side =
       pending_is_bounded = pending_bounded (setup_of C z.heard) (heads_fit C z.heard) began.client began.answers l z.place (taken z.heard) side k.stands k.met few.passes;
       payload_is_bounded = few.lies.host.payload;
       heads_are_bounded = few.lies.host.heads;
+      rows_are_bounded = rows_are_few C past;
     }

@@ -30,7 +30,7 @@ use Rattle.conn.specs.Paid.{Paid}
 use Rattle.conn.specs.Settling.{is_over, noted_in, over_in, settle_notes, settling_at, took_all, given_up_at, gave_up}
 use Rattle.conn.specs.Stages.{has_finished, is_asking, is_draining}
 use Rattle.conn.specs.declared.connection.Conn.{Conn}
-use Rattle.conn.specs.declared.ends.End.{End}
+use Rattle.conn.specs.declared.ends.ConnectionEnd.{ConnectionEnd}
 use Rattle.conn.specs.declared.ends.Ends.{Ends as BothEnds}
 use Rattle.conn.specs.declared.ends.Link.{Link}
 use Rattle.conn.specs.declared.ends.Link.TheVariants as link
@@ -97,7 +97,7 @@ no_stream ts link.Up b n e = absurd (let l = length-append ts (taken_by b n ∷ 
 no_stream ts (link.Leaving w) b n e = absurd (let l = length-append ts (taken_by b n ∷ []) in let z = ap length e in omega (arith, l, z))
 no_stream ts link.GivenUp b n e = absurd (let l = length-append ts (taken_by b n ∷ []) in let z = ap length e in omega (arith, l, z))
 
-none_queued : (e : End) → e ≡ fresh_end → length (queue_of e) ≡ 0
+none_queued : (e : ConnectionEnd) → e ≡ fresh_end → length (queue_of e) ≡ 0
 none_queued e is = ap (λ x. length (queue_of x)) is
 
 -- bytes of a server may come where the trace says so

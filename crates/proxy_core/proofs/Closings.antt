@@ -161,7 +161,7 @@ any_on test (n ∷ some) more = ap (λ b. test n || b) (any_on test some more) �
 pub none_on : (test : Note → Bool) (some more : List Note) → list_any test some ≡ false → list_any test (some ++ more) ≡ list_any test more
 none_on test some more e = any_on test some more ∙ ap (λ b. b || list_any test more) e
 
-any_if : (test : Note → Bool) (b : Bool) (n : Note) → test n ≡ false → list_any test (note_if b n) ≡ false
+pub any_if : (test : Note → Bool) (b : Bool) (n : Note) → test n ≡ false → list_any test (note_if b n) ≡ false
 any_if test true n e = ap (λ b. b || false) e
 any_if test false n e = refl
 

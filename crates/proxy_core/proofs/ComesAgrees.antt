@@ -10,12 +10,12 @@ use Rattle.conn_trace.specs.Heard.{edges_met}
 use Rattle.conn.specs.declared.connection.Conn.{Conn}
 use Rattle.proxy_core.specs.Changes as code
 use Rattle.proxy_core.specs.Live.{MayCome, asks_in}
-use Rattle.proxy_core.specs.Calls.{calls_of, is_any, without_calls, woken}
+use Rattle.proxy_core.specs.Calls.{calls_of, is_any, sleepers_of, without_calls, without_sleepers, woken}
 use Rattle.record_model.specs.Past.{Past, heard, ended_in, without_all, shared}
 use Rattle.proxy_core.specs.Ready.{numbers, is_in, without, with_ready}
 use Rattle.proxy_core.specs.Refusals.{live_at}
-use Rattle.proxy_core.specs.Represents.{Represents}
-use Rattle.proxy_core.specs.Scheduler.{State, seen, seen_after}
+use Rattle.proxy_core.specs.Represents.{AgreesAsleep, Represents}
+use Rattle.proxy_core.specs.Scheduler.{State, open_calls, seen, seen_after, with_asleep}
 use Rattle.record_model.specs.Setup.{setup_in, setup_of}
 use Rattle.proxy_core.specs.Sound.{Served}
 use Rattle.run_config.specs.declared.config.Config.{Config}
@@ -26,7 +26,8 @@ use Rattle.proxy_core.proofs.Finished.{heard_finish, stands_orderly, trace_finis
 use Rattle.proxy_core.proofs.Members.{not_in_without}
 use Rattle.proxy_core.proofs.Meeting.{come_told}
 use Rattle.proxy_core.proofs.Places.{number_at, live_there}
-use Rattle.proxy_core.proofs.Entries.{calls_without_self, none_without}
+use Rattle.proxy_core.proofs.Entries.{lacked_open, none_without, open_none}
+use Rattle.proxy_core.proofs.Sleepers.{forgotten, stays_asleep}
 use Rattle.proxy_core.proofs.Standing.{as_live}
 use Rattle.proxy_core.proofs.CameOn.{AsksOn, MayConn, Stood, came_on, state_came}
 use Rattle.proxy_core.proofs.Agreeing.{After, assemble, its, distinct_live, one_changed, is_live_over, serves_still}
@@ -40,35 +41,45 @@ record CoreCame (c : ℕ) (lacks over : Bool) (s : State) (old new : Core) (at :
   live : new.live.items ≡ (if over then remove old.live.items at else set old.live.items at after)
   ring : new.live.ring ≡ (state_came lacks over c s).ring
   queue : new.queue.items ≡ (state_came lacks over c s).queue
+  asleep : AgreesAsleep (state_came lacks over c s).asleep new.queue.asleep
 
-core_came : (c : ℕ) (lacks over : Bool) (s : State) (old new : Core) (at : ℕ) (before after : Live) → before.number ≡ c → after.number ≡ c → old.live.ring ≡ s.ring → old.queue.items ≡ s.queue → asks_in before.conn ≡ is_any (calls_of c s.queue) → AsksOn lacks before.conn after.conn → (lacks ≡ true → over ≡ false)
+core_came : (c : ℕ) (lacks over : Bool) (s : State) (old new : Core) (at : ℕ) (before after : Live) → before.number ≡ c → after.number ≡ c → old.live.ring ≡ s.ring → old.queue.items ≡ s.queue → AgreesAsleep s.asleep old.queue.asleep → asks_in before.conn ≡ is_any (open_calls c s) → AsksOn lacks before.conn after.conn → (lacks ≡ true → over ≡ false)
     → (over ≡ false → code.Stays old new at before after) → (over ≡ true → code.Goes old new at before) → CoreCame c lacks over s old new at after
-core_came c true true s old new at before after nb na ring queue asks on stays f g = absurd (let x = stays refl in cc)
-core_came c true false s old new at before after nb na ring queue asks on stays f g =
+core_came c true true s old new at before after nb na ring queue held asks on stays f g = absurd (let x = stays refl in cc)
+core_came c true false s old new at before after nb na ring queue held asks on stays f g =
     let k = f refl in
     record {
       live = k.live;
       ring = k.ring ∙ ap (λ b. woken b after.number old.live.ring) (on.gone refl) ∙ ap (λ m. with_ready old.live.ring m) na ∙ ap (λ x. with_ready x c) ring;
       queue = by_asked (asks_in before.conn) refl;
+      asleep = by_held (asks_in before.conn) refl;
     }
   where
+    none_open : asks_in before.conn ≡ false → (calls_of c s.queue ≡ []) × (s.asleep c ≡ None)
+    none_open e = open_none c s (none_any (open_calls c s) (sym asks ∙ e))
+
     by_asked : (b : Bool) → asks_in before.conn ≡ b → new.queue.items ≡ without_calls c s.queue
-    by_asked true e = (f refl).forgets (on.gone refl) e ∙ ap (λ m. without_calls m old.queue.items) na ∙ ap (without_calls c) queue
-    by_asked false e = (f refl).waits (on.gone refl ∙ sym e) ∙ queue ∙ sym (none_without c s.queue (none_any (calls_of c s.queue) (sym asks ∙ e)))
-core_came c false true s old new at before after nb na ring queue asks on stays f g =
+    by_asked true e = ((f refl).forgets (on.gone refl) e).0 ∙ ap (λ m. without_calls m old.queue.items) na ∙ ap (without_calls c) queue
+    by_asked false e = ((f refl).waits (on.gone refl ∙ sym e)).0 ∙ queue ∙ sym (none_without c s.queue (none_open e).0)
+
+    by_held : (b : Bool) → asks_in before.conn ≡ b → AgreesAsleep (with_asleep c None s.asleep) new.queue.asleep
+    by_held true e q = ap (sleepers_of q) (((f refl).forgets (on.gone refl) e).1 ∙ ap (λ m. without_sleepers m old.queue.asleep) na) ∙ forgotten c s.asleep old.queue.asleep held q
+    by_held false e q = ap (sleepers_of q) ((f refl).waits (on.gone refl ∙ sym e)).1 ∙ stays_asleep c None s.asleep old.queue.asleep (none_open e).1 held q
+core_came c false true s old new at before after nb na ring queue held asks on stays f g =
     let k = g refl in
-    record { live = k.live; ring = k.ring ∙ ap (λ m. without m old.live.ring) nb ∙ ap (without c) ring; queue = k.queue ∙ queue }
-core_came c false false s old new at before after nb na ring queue asks on stays f g =
+    record { live = k.live; ring = k.ring ∙ ap (λ m. without m old.live.ring) nb ∙ ap (without c) ring; queue = k.queue ∙ queue; asleep = λ q. ap (sleepers_of q) k.asleep ∙ held q }
+core_came c false false s old new at before after nb na ring queue held asks on stays f g =
     let k = f refl in
     record {
       live = k.live;
-      ring = k.ring ∙ ap (λ b. woken b after.number old.live.ring) (on.same refl ∙ asks) ∙ ap (λ m. woken (is_any (calls_of c s.queue)) m old.live.ring) na ∙ ap (woken (is_any (calls_of c s.queue)) c) ring;
-      queue = k.waits (on.same refl) ∙ queue;
+      ring = k.ring ∙ ap (λ b. woken b after.number old.live.ring) (on.same refl ∙ asks) ∙ ap (λ m. woken (is_any (open_calls c s)) m old.live.ring) na ∙ ap (woken (is_any (open_calls c s)) c) ring;
+      queue = (k.waits (on.same refl)).0 ∙ queue;
+      asleep = λ q. ap (sleepers_of q) (k.waits (on.same refl)).1 ∙ held q;
     }
 
 -- and its calls tell so
-asks_come : (c : ℕ) (lacks over : Bool) (s : State) (o o' : Option Conn) → asks_in o ≡ is_any (calls_of c s.queue) → AsksOn lacks o o' → asks_in o' ≡ is_any (calls_of c (state_came lacks over c s).queue)
-asks_come c true over s o o' asks on = on.gone refl ∙ sym (ap is_any (calls_without_self c s.queue))
+asks_come : (c : ℕ) (lacks over : Bool) (s : State) (o o' : Option Conn) → asks_in o ≡ is_any (open_calls c s) → AsksOn lacks o o' → asks_in o' ≡ is_any (open_calls c (state_came lacks over c s))
+asks_come c true over s o o' asks on = on.gone refl ∙ sym (ap is_any (lacked_open c s))
 asks_come c false over s o o' asks on = on.same refl ∙ asks
 
 -- where its trace stands
@@ -118,7 +129,7 @@ comes C past s old new c input group r k =
     let w = came_on C past s c input (stood_of C past s c served) k.before.conn k.after.conn k.before.edges group k.over i.continues i.edges (may_conn input k.before k.may) k.came in
     let number = number_at c k.at old.live.items k.before k.place k.found in
     let number' : k.after.number ≡ c = k.same.number ∙ number in
-    let t = core_came c w.lacks k.over s old new k.at k.before k.after number number' r.agrees.ring r.agrees.queue i.asking w.asks w.stays k.goes_on k.ends in
+    let t = core_came c w.lacks k.over s old new k.at k.before k.after number number' r.agrees.ring r.agrees.queue r.agrees.asleep i.asking w.asks w.stays k.goes_on k.ends in
     let d = distinct_live C past s old r in
     let o = one_changed c k.over old.live.items new.live.items k.at k.before k.after d k.found number number' t.live in
     let next = state_came w.lacks k.over c s in
@@ -128,5 +139,5 @@ comes C past s old new c input group r k =
     let ends_are = edges_come c h input group w.about ∙ ap (λ e. edges_noted group (edges_met input e)) i.edges ∙ sym k.edges in
     assemble C past s next v group old new r w.moves k.keeps k.last k.moment
     (o.numbers_are ∙ sym (ended_live c k.over group (numbers old.live.items) w.ended))
-    t.ring t.queue k.store o.others
+    t.ring t.queue t.asleep k.store o.others
     (is_live_over c k.over old.live.items new.live.items k.after z' C o live w.on (λ e. serves) (λ e. ends_are) (λ e. asks_come c w.lacks k.over s k.before.conn k.after.conn i.asking w.asks))

@@ -1,25 +1,27 @@
 -- There are fewer calls than connections may be while one that is live waits for none.
-use Rattle.std.proofs.Common.{◌≡◌, refl, sym, ap, subst, ◌∙◌, ℕ, ◌+◌, ◌≤◌, ◌<◌, List, [], ◌∷◌, length, Bool, true, false, not, ◌||◌, nat_eq, if◌then◌else◌, arith}
+use Rattle.std.proofs.Common.{◌≡◌, refl, sym, ap, subst, ◌∙◌, ℕ, ◌+◌, ◌≤◌, ◌<◌, List, [], ◌∷◌, length, map, Bool, true, false, not, ◌||◌, nat_eq, if◌then◌else◌, arith}
 use Rattle.std.specs.Prelude.{is_some}
 use Rattle.std.specs.Bool.{MatchBool}
-use Rattle.std.proofs.lemmas.List.{length-map}
+use Rattle.std.proofs.lemmas.List.{length-append, length-map}
 use Rattle.conn_trace.specs.Gates.{TakenCounts}
 use Rattle.core_events.specs.declared.edges.Edges.{Edges}
 use Rattle.conn_trace.specs.Heard.{taken}
 use Rattle.conn_trace.specs.Setup.{Setup}
 use Rattle.conn_trace.specs.State.{TraceState}
-use Rattle.proxy_core.specs.Calls.{calls_of, is_any, without_calls}
+use Rattle.proxy_core.specs.Calls.{as_asked, calls_of, is_any, without_calls}
 use Rattle.record_model.specs.Past.{Past, shared}
 use Rattle.proxy_core.specs.Ready.{is_in, without}
-use Rattle.proxy_core.specs.Represents.{Represents}
-use Rattle.proxy_core.specs.Scheduler.{State, Seen, seen}
+use Rattle.proxy_core.specs.Represents.{AgreesAsleep, Represents}
+use Rattle.proxy_core.specs.Scheduler.{State, Seen, open_calls, seen}
 use Rattle.record_model.specs.Setup.{setup_of, stand_of}
 use Rattle.proxy_core.specs.Sound.{unseen, Spot, Served, SoundAt}
 use Rattle.proxy_core.specs.declared.call.Asked.{Asked}
+use Rattle.proxy_core.specs.declared.call.Asleep.{Asleep}
 use Rattle.run_config.specs.declared.config.Config.{Config}
 use Rattle.proxy_core.specs.declared.core_state.Core.{Core}
 use Rattle.proxy_core.proofs.Entries.{calls_front, calls_without, calls_without_self}
 use Rattle.proxy_core.proofs.Members.{eq_same, in_without_other}
+use Rattle.proxy_core.proofs.Sleepers.{all_held, held_open}
 
 -- the calls of one connection, and the others
 parted : (n : ℕ) (queue : List Asked) → length queue ≡ length (without_calls n queue) + length (calls_of n queue)
@@ -84,7 +86,7 @@ spot_few true true (x ∷ (y ∷ ys)) (call ∷ ks) g took at e s = absurd s
 spot_few true false [] (call ∷ ks) g took at e s = absurd s
 spot_few true false (x ∷ xs) (call ∷ ks) g took at e s = absurd s
 
-sound_few : (C : Config) (c : ℕ) (z : Seen) → SoundAt C c z → (length z.asked ≤ 1) × (is_any z.asked ≡ true → z.live ≡ true)
+pub sound_few : (C : Config) (c : ℕ) (z : Seen) → SoundAt C c z → (length z.asked ≤ 1) × (is_any z.asked ≡ true → z.live ≡ true)
 sound_few C c z s = by_accepted (is_some z.heard.accepted) s
   where
     by_accepted : (b : Bool) → MatchBool b (Served C c z) (z ≡ unseen) → (length z.asked ≤ 1) × (is_any z.asked ≡ true → z.live ≡ true)
@@ -94,19 +96,46 @@ sound_few C c z s = by_accepted (is_some z.heard.accepted) s
         let P : List (List (List ℕ)) → Type 0 = λ x. (length x ≤ 1) × (is_any x ≡ true → z.live ≡ true) in
         subst P (sym none) (omega arith, λ h. absurd (let x : false ≡ true = h in cc))
 
-pub fewer_calls : (C : Config) (past : Past) (s : State) (core : Core) (c : ℕ) → Represents C past s core → calls_of c s.queue ≡ [] → is_in (shared past).live c ≡ true → length core.queue.items < core.config.connections
+-- what the code holds of a connection is open
+open_held : (s : State) (core : Core) → core.queue.items ≡ s.queue → AgreesAsleep s.asleep core.queue.asleep → (q : ℕ) → calls_of q (all_held core.queue.items core.queue.asleep) ≡ open_calls q s
+open_held s core queue asleep q = held_open s core.queue.items core.queue.asleep queue asleep q
+
+few_held : (C : Config) (past : Past) (s : State) (core : Core) → Represents C past s core → (q : ℕ) → length (calls_of q (all_held core.queue.items core.queue.asleep)) ≤ 1
+few_held C past s core r q =
+    let P : List (List (List ℕ)) → Type 0 = λ x. length x ≤ 1 in
+    subst P (sym (open_held s core r.agrees.queue r.agrees.asleep q)) (sound_few C q (seen past s q) (r.sound.each q)).0
+
+held_length : (queue : List Asked) (held : List Asleep) → length (all_held queue held) ≡ length queue + length held
+held_length queue held = let n = length-append queue (map as_asked held) in let m = length-map held as_asked in omega (arith, n, m)
+
+live_size : (C : Config) (past : Past) (s : State) (core : Core) → Represents C past s core → length core.live.items ≡ length (shared past).live
+live_size C past s core r = sym (length-map core.live.items (λ l. l.number)) ∙ ap (λ y. length y.live) r.agrees.shared
+
+-- no more calls are open than connections are live
+pub enough_calls : (C : Config) (past : Past) (s : State) (core : Core) → Represents C past s core → length core.queue.items + length core.queue.asleep ≤ core.config.connections
+enough_calls C past s core r =
+    let all = (shared past).live in
+    let held = all_held core.queue.items core.queue.asleep in
+    let k : Among all held = record { few = λ q. few_held C past s core r q; there = λ q h. (sound_few C q (seen past s q) (r.sound.each q)).1 (sym (ap is_any (open_held s core r.agrees.queue r.agrees.asleep q)) ∙ h) } in
+    let most = no_more all held k in
+    let size = live_size C past s core r in
+    let limit = core.live_limit in
+    omega (arith, most, size, held_length core.queue.items core.queue.asleep, limit)
+
+pub fewer_calls : (C : Config) (past : Past) (s : State) (core : Core) (c : ℕ) → Represents C past s core → open_calls c s ≡ [] → is_in (shared past).live c ≡ true → length core.queue.items + length core.queue.asleep < core.config.connections
 fewer_calls C past s core c r none live =
     let all = (shared past).live in
-    let k : Among (without c all) s.queue = record {
-      few = λ q. (sound_few C q (seen past s q) (r.sound.each q)).0;
+    let held = all_held core.queue.items core.queue.asleep in
+    let k : Among (without c all) held = record {
+      few = λ q. few_held C past s core r q;
       there = λ q h. by_test q (nat_eq q c) refl h;
     } in
-    let most = no_more (without c all) s.queue k in
-    let size : length core.live.items ≡ length all = sym (length-map core.live.items (λ l. l.number)) ∙ ap (λ y. length y.live) r.agrees.shared in
-    let calls : length core.queue.items ≡ length s.queue = ap length r.agrees.queue in
+    let most = no_more (without c all) held k in
+    let size = live_size C past s core r in
+    let calls = held_length core.queue.items core.queue.asleep in
     let limit = core.live_limit in
     omega (arith, most, length_without c all live, size, calls, limit)
   where
-    by_test : (q : ℕ) (b : Bool) → nat_eq q c ≡ b → is_any (calls_of q s.queue) ≡ true → is_in (without c (shared past).live) q ≡ true
-    by_test q true e h = absurd (let x : false ≡ true = sym (ap (λ n. is_any (calls_of n s.queue)) (eq_same q c e) ∙ ap is_any none) ∙ h in cc)
-    by_test q false e h = in_without_other c q (shared past).live e ∙ (sound_few C q (seen past s q) (r.sound.each q)).1 h
+    by_test : (q : ℕ) (b : Bool) → nat_eq q c ≡ b → is_any (calls_of q (all_held core.queue.items core.queue.asleep)) ≡ true → is_in (without c (shared past).live) q ≡ true
+    by_test q true e h = absurd (let x : false ≡ true = sym (ap is_any (open_held s core r.agrees.queue r.agrees.asleep q ∙ ap (λ n. open_calls n s) (eq_same q c e) ∙ none)) ∙ h in cc)
+    by_test q false e h = in_without_other c q (shared past).live e ∙ (sound_few C q (seen past s q) (r.sound.each q)).1 (sym (ap is_any (open_held s core r.agrees.queue r.agrees.asleep q)) ∙ h)

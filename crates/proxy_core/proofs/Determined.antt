@@ -26,15 +26,17 @@ use Rattle.px_bytes.specs.declared.fault.Reply.{Reply}
 use Rattle.conn_trace.specs.Tellings.{choices_told, cut_told, failure_told, finish_told, notes_about, replies_told}
 use Rattle.conn_trace.specs.Trace.{GivesNoMore, next_item, Unfolds}
 use Rattle.conn_trace.proofs.Querying.{given_is_due}
-use Rattle.conn.specs.RunsItems.{Passes, StopsAt, slices_in, is_resting, told_behind}
-use Rattle.conn.specs.Settling.{closing, is_drained, is_over, resting, settling_at, took_all, given_up_at}
+use Rattle.conn.specs.RunsItems.{Passes, StopsAt, slices_in}
+use Rattle.conn.specs.Settling.{closing, is_drained, is_over, settling_at, took_all, given_up_at}
 use Rattle.conn.specs.declared.turn.ConnTurn.{ConnTurn}
 use Rattle.conn.specs.declared.turn.ConnTurn.TheVariants as turn
+use Rattle.proxy_core.proofs.Waking.{same_calls}
+use Rattle.proxy_core.proofs.RunOn.{last_due}
 use Rattle.proxy_core.specs.Calls.{queue_behind}
-use Rattle.proxy_core.specs.Determined.{ChoicesDetermine, FoundMemory, MovesWhole, RunsWhole, SameChoices}
+use Rattle.proxy_core.specs.Determined.{ChoicesDetermine, FoundMemory, MovesWhole, RunsWhole, SameChoices, WakesOne}
 use Rattle.record_model.specs.History.{store_of}
 use Rattle.proxy_core.specs.Live.{entry_note}
-use Rattle.proxy_core.specs.Moves.{came, is_drained_at, MovesAccept, MovesBy, MovesFailed, MovesLacks, MovesOn, MovesQueue, MovesRing, MovesTurn, ran, RunsFailed, RunsOn, RunsOut}
+use Rattle.proxy_core.specs.Moves.{came, is_drained_at, MovesAccept, MovesBy, MovesFailed, MovesLacks, MovesOn, MovesQueue, MovesRing, MovesTurn, ran, RunsFailed, RunsOn, RunsOut, MovesTick, asleep_behind, sleeps_on, told_last, wakes}
 use Rattle.record_model.specs.Past.{Past, heard, shared}
 use Rattle.proxy_core.specs.Ready.{is_in, ring_behind, with_ready}
 use Rattle.proxy_core.specs.Scheduler.{State, untaken_all}
@@ -42,7 +44,7 @@ use Rattle.record_model.specs.Setup.{setup_of, stand_of}
 use Rattle.proxy_core.specs.declared.call.Asked.{Asked}
 use Rattle.run_config.specs.declared.config.Config.{Config}
 use Rattle.shared_store.specs.Calls.{reply}
-use Rattle.proxy_core.proofs.GroupNotes.{About, AreDue, about_joined, closing_due, due_about, due_finish, due_quiet, resting_due, settling_due, tells_all}
+use Rattle.proxy_core.proofs.GroupNotes.{About, AreDue, about_joined, closing_due, due_about, due_finish, due_quiet, settling_due, tells_all, whole_notes}
 use Rattle.proxy_core.proofs.Members.{in_pushed_self}
 use Rattle.conn.specs.Servers.{run_notes}
 use Rattle.proxy_core.proofs.RunNotes.{about_runs, failure_runs, of_runs, run_notes_tell}
@@ -300,7 +302,7 @@ module _ (C : Config) (past : Past) (old : State) (one other : List Note) (s t :
       l : TraceState
       l = stand_of C h (old.places c)
 
-      on : (group : List Note) (new : State) → FoundMemory group → RunsOn C h c rest group old new ⊎ RunsOut C h c rest group old new → RunsOn C h c rest group old new
+      on : (group : List Note) (new : State) → FoundMemory group → RunsOn C h (shared past).moment c rest group old new ⊎ RunsOut C h c rest group old new → RunsOn C h (shared past).moment c rest group old new
       on group new f (inl k) = k
       on group new f (inr k) =
           let notes = run_notes c l.sent (taken h) k.more in
@@ -311,37 +313,39 @@ module _ (C : Config) (past : Past) (old : State) (one other : List Note) (s t :
           absurd (lacks group (notes ++ Finish c Memory ∷ behind) c f k.notes (ap failure_told (tells_all c (notes ++ Finish c Memory ∷ behind) about) ∙ failure_runs c notes (Finish c Memory ∷ behind) runs))
 
       -- what is told where it rests tells nothing
-      told_due : (t : ConnTurn) (at : TraceState) (e : Edges) (d : ℕ) → AreDue c (told_behind t g (taken h) at c e d)
-      told_due t at e d = by_rest (is_resting t)
-        where
-          by_rest : (b : Bool) → AreDue c (if b then resting g (taken h) at c e d else [])
-          by_rest true = resting_due g (taken h) at c e d
-          by_rest false = tt
+      moment : ℕ
+      moment = (shared past).moment
+
+      told_due : (t : ConnTurn) (at : TraceState) (e : Edges) (d : ℕ) → AreDue c (told_last t g (taken h) at c e d moment)
+      told_due t at e d = last_due t g (taken h) at c e d moment
 
       notes_by : List Item → ConnTurn → TraceState → List Note
-      notes_by more k at = run_notes c l.sent (taken h) more ++ told_behind k g (taken h) at c (edges_noted (run_notes c l.sent (taken h) more) h.edges) (untaken_all h (old.places c ++ more))
+      notes_by more k at = run_notes c l.sent (taken h) more ++ told_last k g (taken h) at c (edges_noted (run_notes c l.sent (taken h) more) h.edges) (untaken_all h (old.places c ++ more)) moment
+
+      noted : (group : List Note) (new : State) (x : RunsOn C h (shared past).moment c rest group old new) → group ≡ notes_by x.more x.turn x.at
+      noted group new x = whole_notes x.turn c moment group x.told (run_notes c l.sent (taken h) x.more) _ x.notes x.items.noted
 
       after_by : List Item → ConnTurn → State
-      after_by more k = ran c (ring_behind k c rest) (queue_behind k c old.queue) more 0 old
+      after_by more k = ran c (ring_behind k c rest) (queue_behind k c old.queue) (asleep_behind k c moment (old.asleep c)) more 0 old
 
       -- the choices of its items are those that its group tells, and so is the cut
-      told_choices : (group : List Note) (new : State) (x : RunsOn C h c rest group old new) → choices_told (notes_about c group) ≡ choices_in x.more
+      told_choices : (group : List Note) (new : State) (x : RunsOn C h (shared past).moment c rest group old new) → choices_told (notes_about c group) ≡ choices_in x.more
       told_choices group new x =
           let d = untaken_all h (old.places c ++ x.more) in
-          let behind = told_behind x.turn g (taken h) x.at c (edges_noted (run_notes c l.sent (taken h) x.more) h.edges) d in
+          let behind = told_last x.turn g (taken h) x.at c (edges_noted (run_notes c l.sent (taken h) x.more) h.edges) d moment in
           let quiet = due_quiet c behind (told_due x.turn x.at (edges_noted (run_notes c l.sent (taken h) x.more) h.edges) d) in
-          ap (λ (l : List Note). choices_told (notes_about c l)) x.items.noted ∙ (run_notes_tell c l.sent (taken h) x.more behind).choices
+          ap (λ (l : List Note). choices_told (notes_about c l)) (noted group new x) ∙ (run_notes_tell c l.sent (taken h) x.more behind).choices
           ∙ ap (λ (l : List Choice). choices_in x.more ++ l) quiet.choices ∙ append-nil (choices_in x.more)
 
-      told_cut : (group : List Note) (new : State) (x : RunsOn C h c rest group old new) → cut_told (taken h) (notes_about c group) ≡ cut_in (taken h) x.more
+      told_cut : (group : List Note) (new : State) (x : RunsOn C h (shared past).moment c rest group old new) → cut_told (taken h) (notes_about c group) ≡ cut_in (taken h) x.more
       told_cut group new x =
           let d = untaken_all h (old.places c ++ x.more) in
-          let behind = told_behind x.turn g (taken h) x.at c (edges_noted (run_notes c l.sent (taken h) x.more) h.edges) d in
+          let behind = told_last x.turn g (taken h) x.at c (edges_noted (run_notes c l.sent (taken h) x.more) h.edges) d moment in
           let quiet = due_quiet c behind (told_due x.turn x.at (edges_noted (run_notes c l.sent (taken h) x.more) h.edges) d) in
-          ap (λ (l : List Note). cut_told (taken h) (notes_about c l)) x.items.noted ∙ (run_notes_tell c l.sent (taken h) x.more behind).cut (taken h) (quiet.cut (taken h))
+          ap (λ (l : List Note). cut_told (taken h) (notes_about c l)) (noted group new x) ∙ (run_notes_tell c l.sent (taken h) x.more behind).cut (taken h) (quiet.cut (taken h))
 
-      by : (b : Bool) → MatchBool b (RunsFailed h c rest one old s) (RunsOn C h c rest one old s ⊎ RunsOut C h c rest one old s)
-          → MatchBool b (RunsFailed h c rest other old t) (RunsOn C h c rest other old t ⊎ RunsOut C h c rest other old t) → Same
+      by : (b : Bool) → MatchBool b (RunsFailed h c rest one old s) (RunsOn C h (shared past).moment c rest one old s ⊎ RunsOut C h c rest one old s)
+          → MatchBool b (RunsFailed h c rest other old t) (RunsOn C h (shared past).moment c rest other old t ⊎ RunsOut C h c rest other old t) → Same
       by true k k' = both _ _ k.notes k'.notes k.state k'.state
       by false k k' =
           let x = on one s found k in
@@ -355,9 +359,9 @@ module _ (C : Config) (past : Past) (old : State) (one other : List Note) (s t :
           ap (λ (m : List Item). notes_by m y.turn y.at) it.0.items ∙ ap (λ k. notes_by x.more k y.at) it.1 ∙ ap (notes_by x.more x.turn) it.0.at in
           let after : after_by y.more y.turn ≡ after_by x.more x.turn =
           ap (λ (m : List Item). after_by m y.turn) it.0.items ∙ ap (after_by x.more) it.1 in
-          let spent = ap (λ k. ran c (ring_behind x.turn c rest) (queue_behind x.turn c old.queue) x.more k old) (slices_whole x.turn (length one) w) in
-          let spent' = ap (λ k. ran c (ring_behind y.turn c rest) (queue_behind y.turn c old.queue) y.more k old) (slices_whole y.turn (length other) w') in
-          (x.items.noted ∙ sym notes ∙ sym y.items.noted, (x.state ∙ spent) ∙ sym after ∙ sym (y.state ∙ spent'))
+          let spent = ap (λ k. ran c (ring_behind x.turn c rest) (queue_behind x.turn c old.queue) (asleep_behind x.turn c moment (old.asleep c)) x.more k old) (slices_whole x.turn (length x.told) w) in
+          let spent' = ap (λ k. ran c (ring_behind y.turn c rest) (queue_behind y.turn c old.queue) (asleep_behind y.turn c moment (old.asleep c)) y.more k old) (slices_whole y.turn (length y.told) w') in
+          (noted one s x ∙ sym notes ∙ sym (noted other t y), (x.state ∙ spent) ∙ sym after ∙ sym (y.state ∙ spent'))
 
   runs_same : (ring : List ℕ) → old.ring ≡ ring → MovesRing C past ring one old s → MovesRing C past ring other old t → RunsWhole Runs old s → RunsWhole Runs old t
       → Same
@@ -366,13 +370,18 @@ module _ (C : Config) (past : Past) (old : State) (one other : List Note) (s t :
       let front = ap (λ (l : List ℕ). slice_get l 0) e in
       front_same c rest (w c front) (w' c front) m n
 
-  event_same : (v : EventKind) → MovesBy C past v one old s → MovesBy C past v other old t → RunsWhole v old s → RunsWhole v old t → Same
-  event_same (Accepts c vs from) m n w w' = accepts_same c m n
-  event_same (Comes c i) m n w w' = comes_same c i m n
-  event_same (Ticks moment) m n w w' = both [] old m.0 n.0 m.1 n.1
-  event_same Turns m n w w' = turns_alike old.queue m n
-  event_same Runs m n w w' = runs_same old.ring refl m n w w'
-  event_same (Marks pool member up) m n w w' = both [] old m.0 n.0 m.1 n.1
+  ticks_same : (moment : ℕ) → MovesTick moment one old s → MovesTick moment other old t → WakesOne (Ticks moment) old → Same
+  ticks_same moment m n one_wakes =
+      let calls = same_calls (λ c. wakes moment (old.asleep c)) one_wakes n.calls m.calls n.woken m.woken in
+      both [] _ m.notes n.notes m.state (n.state ∙ ap (λ (l : List Asked). record old { queue = old.queue ++ l; asleep = λ c. sleeps_on moment (old.asleep c) }) calls)
+
+  event_same : (v : EventKind) → MovesBy C past v one old s → MovesBy C past v other old t → RunsWhole v old s → RunsWhole v old t → WakesOne v old → Same
+  event_same (Accepts c vs from) m n w w' o = accepts_same c m n
+  event_same (Comes c i) m n w w' o = comes_same c i m n
+  event_same (Ticks moment) m n w w' o = ticks_same moment m n o
+  event_same Turns m n w w' o = turns_alike old.queue m n
+  event_same Runs m n w w' o = runs_same old.ring refl m n w w'
+  event_same (Marks pool member up) m n w w' o = both [] old m.0 n.0 m.1 n.1
 
 -- ---- all of them
 
@@ -384,6 +393,6 @@ choices_determine C (x ∷ past) (y ∷ other) s t p q r =
     let before = choices_determine C past other p.0 q.0 p.1 q.1 r.2 in
     let Q : Past → State → Event → Type 0 = λ pa st e. MovesWhole C pa (record { event = e; group = y.group }) st t in
     let here : Q past p.0 x.event = subst (λ e. Q past p.0 e) (sym r.0) (subst (λ st. Q past st y.event) (sym before.1) (subst (λ pa. Q pa q.0 y.event) (sym before.0) q.3)) in
-    let it = event_same C past p.0 x.group y.group s t p.3.found_memory here.found_memory r.1 (kind_of x.event) p.3.moves here.moves p.3.runs_whole here.runs_whole in
+    let it = event_same C past p.0 x.group y.group s t p.3.found_memory here.found_memory r.1 (kind_of x.event) p.3.moves here.moves p.3.runs_whole here.runs_whole p.3.wakes_one in
     let same : x ≡ y = ap (λ e. record { event = e; group = x.group }) r.0 ∙ ap (λ (g : List Note). record { event = y.event; group = g }) it.0 in
     (ap (λ z. z ∷ past) same ∙ ap (λ (l : Past). y ∷ l) before.0, it.1)

@@ -26,12 +26,15 @@ use Rattle.conn_trace.specs.Trace.{next_item}
 use Rattle.conn.specs.RunsItems.{is_resting, told_behind}
 use Rattle.conn.specs.Settling.{client_notes, close_notes, closing, half_close, is_over, is_there, note_if, resting, server_notes, settling, settling_at, took_all, given_up_at}
 use Rattle.conn.specs.declared.turn.ConnTurn.{ConnTurn}
+use Rattle.conn.specs.declared.turn.ConnTurn.TheVariants as turn
+use Rattle.record_model.specs.Clock.{wakes_at}
+use Rattle.proxy_core.specs.Calls.{sleep_note, sleeps}
+use Rattle.proxy_core.specs.Moves.{told_last}
 use Rattle.proxy_core.specs.Fitting.{fits, Fit}
 use Rattle.core_events.specs.Kinds.{kind_of}
 use Rattle.record_model.specs.Past.{Past, heard}
 use Rattle.proxy_core.specs.Servers.{is_used}
 use Rattle.proxy_core.proofs.Closings.{both, halved, half_client, half_server, half_state, is_due, server_edges}
-use Rattle.proxy_core.proofs.GroupNotes.{About, due_about, resting_due}
 use Rattle.proxy_core.proofs.Linking.{fit_joined}
 use Rattle.proxy_core.proofs.SoundPast.{marked_accepted}
 use Rattle.proxy_core.proofs.ServerGone.{never}
@@ -144,9 +147,17 @@ fit_behind t g took at c e d k = by_rest (is_resting t)
     by_rest true = fit_resting g took at c e d k
     by_rest false = tt
 
-pub about_behind : (t : ConnTurn) (g : Setup) (took : TakenCounts) (at : TraceState) (c : ℕ) (e : Edges) (d : ℕ) → About c (told_behind t g took at c e d)
-about_behind t g took at c e d = by_rest (is_resting t)
+fit_sleep : (t : ConnTurn) (c moment : ℕ) (e : Edges) → Fit (sleep_note t c moment) e
+fit_sleep turn.More c moment e = tt
+fit_sleep (turn.Asks call) c moment e = by_test (sleeps call)
   where
-    by_rest : (b : Bool) → About c (if b then resting g took at c e d else [])
-    by_rest true = due_about c (resting g took at c e d) (resting_due g took at c e d)
-    by_rest false = tt
+    by_test : (b : Bool) → Fit (if b then note.Sleep c (wakes_at moment call) ∷ [] else []) e
+    by_test true = (refl, tt)
+    by_test false = tt
+fit_sleep turn.NotYet c moment e = tt
+fit_sleep turn.Over c moment e = tt
+
+pub fit_last : (t : ConnTurn) (g : Setup) (took : TakenCounts) (at : TraceState) (c : ℕ) (e : Edges) (d moment : ℕ) → HalvesThere took at e → Fit (told_last t g took at c e d moment) e
+fit_last t g took at c e d moment k =
+    let rested = told_behind t g took at c e d in
+    fit_joined rested (sleep_note t c moment) e (fit_behind t g took at c e d k) (fit_sleep t c moment (edges_noted rested e))

@@ -1,12 +1,15 @@
 -- The entries of a number in a ring that changed.
-use Rattle.std.proofs.Common.{◌≡◌, refl, sym, ap, ◌∙◌, ℕ, List, [], ◌∷◌, ◌++◌, Bool, true, false, not, ◌||◌, nat_eq, if◌then◌else◌, append-nil}
+use Rattle.std.proofs.Common.{◌≡◌, refl, sym, ap, ◌∙◌, ℕ, Option, Some, None, List, [], ◌∷◌, ◌++◌, Bool, true, false, not, ◌||◌, nat_eq, if◌then◌else◌, append-nil}
 use Rattle.std.proofs.lemmas.List.Elements.{filter-append}
 use Rattle.conn.specs.declared.turn.ConnTurn.{ConnTurn}
 use Rattle.conn.specs.declared.turn.ConnTurn.TheVariants as turn
-use Rattle.proxy_core.specs.Calls.{calls_of, queue_behind, without_calls, woken}
+use Rattle.proxy_core.specs.Calls.{calls_of, calls_with, falls_asleep, queue_behind, sleeps, without_calls, woken}
+use Rattle.proxy_core.specs.Moves.{asleep_behind, ran}
+use Rattle.conn_trace.specs.Item.{Item}
 use Rattle.proxy_core.specs.Ready.{is_in, ring_behind, without, with_ready}
 use Rattle.proxy_core.specs.declared.call.Asked.{Asked}
-use Rattle.proxy_core.specs.Scheduler.{entries}
+use Rattle.proxy_core.specs.declared.call.Asleep.{Asleep}
+use Rattle.proxy_core.specs.Scheduler.{State, called_by, entries, open_calls, with_asleep}
 use Rattle.proxy_core.proofs.Members.{eq_self, eq_same}
 
 pub entries_pushed_self : (n : ℕ) (ns : List ℕ) → entries n (ns ++ n ∷ []) ≡ entries n ns ++ n ∷ []
@@ -101,6 +104,14 @@ calls_pushed_self n call (a ∷ queue) = by_test (nat_eq n a.conn) (calls_pushed
     by_test true k = ap (λ r. a.call ∷ r) k
     by_test false k = k
 
+pub calls_joined : (q : ℕ) (some more : List Asked) → calls_of q (some ++ more) ≡ calls_of q some ++ calls_of q more
+calls_joined q [] more = refl
+calls_joined q (a ∷ some) more = by_test (nat_eq q a.conn) (calls_joined q some more)
+  where
+    by_test : (b : Bool) → calls_of q (some ++ more) ≡ calls_of q some ++ calls_of q more → (if b then a.call ∷ calls_of q (some ++ more) else calls_of q (some ++ more)) ≡ (if b then a.call ∷ calls_of q some else calls_of q some) ++ calls_of q more
+    by_test true k = ap (λ r. a.call ∷ r) k
+    by_test false k = k
+
 pub calls_rest : (q : ℕ) (a : Asked) (rest : List Asked) → nat_eq q a.conn ≡ false → calls_of q rest ≡ calls_of q (a ∷ rest)
 calls_rest q a rest h = rw h refl
 
@@ -133,9 +144,16 @@ none_without n (a ∷ queue) h = by_test (nat_eq n a.conn) h (none_without n que
     by_test false k rest = ap (λ as'. a ∷ as') (rest k)
 
 -- where a Run puts a call
+calls_with_other : (n q : ℕ) (call : List (List ℕ)) (queue : List Asked) → nat_eq q n ≡ false → calls_of q (calls_with n call queue) ≡ calls_of q queue
+calls_with_other n q call queue h = by_test (sleeps call)
+  where
+    by_test : (b : Bool) → calls_of q (if b then queue else queue ++ record { conn = n; call = call } ∷ []) ≡ calls_of q queue
+    by_test true = refl
+    by_test false = calls_pushed n q call queue h
+
 pub calls_behind : (t : ConnTurn) (n q : ℕ) (queue : List Asked) → nat_eq q n ≡ false → calls_of q (queue_behind t n queue) ≡ calls_of q queue
 calls_behind turn.More n q queue h = refl
-calls_behind (turn.Asks call) n q queue h = calls_pushed n q call queue h
+calls_behind (turn.Asks call) n q queue h = calls_with_other n q call queue h
 calls_behind turn.NotYet n q queue h = refl
 calls_behind turn.Over n q queue h = refl
 
@@ -143,11 +161,54 @@ abbrev pub asked_behind : ConnTurn → List (List (List ℕ))
 asked_behind (turn.Asks call) = call ∷ []
 asked_behind other = []
 
-pub calls_behind_self : (t : ConnTurn) (n : ℕ) (queue : List Asked) → calls_of n queue ≡ [] → calls_of n (queue_behind t n queue) ≡ asked_behind t
-calls_behind_self turn.More n queue e = e
-calls_behind_self (turn.Asks call) n queue e = calls_pushed_self n call queue ∙ ap (λ x. x ++ call ∷ []) e
-calls_behind_self turn.NotYet n queue e = e
-calls_behind_self turn.Over n queue e = e
+-- a call that sleeps is no less open than one in the queue
+none_open : (calls : List (List (List ℕ))) (o : Option Asleep) → calls ++ called_by o ≡ [] → (calls ≡ []) × (o ≡ None)
+none_open [] None e = (refl, refl)
+none_open [] (Some a) e = cc
+none_open (call ∷ calls) o e = cc
+
+pub open_none : (c : ℕ) (s : State) → open_calls c s ≡ [] → (calls_of c s.queue ≡ []) × (s.asleep c ≡ None)
+open_none c s e = none_open (calls_of c s.queue) (s.asleep c) e
+
+-- the open calls behind a Run, by its queue and its call that sleeps
+abbrev pub open_with : ℕ → List Asked → Option Asleep → List (List (List ℕ))
+open_with n queue o = calls_of n queue ++ called_by o
+
+pub open_behind_self : (t : ConnTurn) (n moment : ℕ) (queue : List Asked) (o : Option Asleep) → open_with n queue o ≡ [] → open_with n (queue_behind t n queue) (asleep_behind t n moment o) ≡ asked_behind t
+open_behind_self turn.More n moment queue o e = e
+open_behind_self (turn.Asks call) n moment queue o e = by_test (sleeps call)
+  where
+    none : (calls_of n queue ≡ []) × (o ≡ None)
+    none = none_open (calls_of n queue) o e
+
+    by_test : (b : Bool) → open_with n (if b then queue else queue ++ record { conn = n; call = call } ∷ []) (if b then Some (falls_asleep n moment call) else o) ≡ call ∷ []
+    by_test true = ap (λ x. x ++ call ∷ []) none.0
+    by_test false = ap (λ x. x ++ called_by o) (calls_pushed_self n call queue ∙ ap (λ x. x ++ call ∷ []) none.0) ∙ ap (λ x. call ∷ called_by x) none.1
+open_behind_self turn.NotYet n moment queue o e = e
+open_behind_self turn.Over n moment queue o e = e
+
+-- the front of the queue is open
+pub open_front : (a : Asked) (rest : List Asked) (s : State) → s.queue ≡ a ∷ rest → open_calls a.conn s ≡ a.call ∷ open_with a.conn rest (s.asleep a.conn)
+open_front a rest s e = ap (λ q. open_with a.conn q (s.asleep a.conn)) e ∙ ap (λ x. x ++ called_by (s.asleep a.conn)) (calls_front a rest)
+
+-- another call that sleeps
+pub asleep_other : (c q : ℕ) (o : Option Asleep) (asleep : ℕ → Option Asleep) → nat_eq c q ≡ false → with_asleep c o asleep q ≡ asleep q
+asleep_other c q o asleep h = rw h refl
+
+pub asleep_self : (c : ℕ) (o : Option Asleep) (asleep : ℕ → Option Asleep) → with_asleep c o asleep c ≡ o
+asleep_self c o asleep = rw (eq_self c) refl
+
+-- behind a Run that found none
+pub ran_open : (t : ConnTurn) (c moment : ℕ) (ring : List ℕ) (more : List Item) (slices : ℕ) (s : State) → open_calls c s ≡ [] → open_calls c (ran c ring (queue_behind t c s.queue) (asleep_behind t c moment (s.asleep c)) more slices s) ≡ asked_behind t
+ran_open t c moment ring more slices s none =
+    ap (open_with c (queue_behind t c s.queue)) (asleep_self c (asleep_behind t c moment (s.asleep c)) s.asleep) ∙ open_behind_self t c moment s.queue (s.asleep c) none
+
+pub ran_still : (c : ℕ) (ring : List ℕ) (more : List Item) (slices : ℕ) (s : State) → open_calls c (ran c ring s.queue (s.asleep c) more slices s) ≡ open_calls c s
+ran_still c ring more slices s = ap (open_with c s.queue) (asleep_self c (s.asleep c) s.asleep)
+
+-- one that found no memory has none open
+pub lacked_open : (c : ℕ) (s : State) → open_with c (without_calls c s.queue) (with_asleep c None s.asleep c) ≡ []
+lacked_open c s = ap (λ x. x ++ called_by (with_asleep c None s.asleep c)) (calls_without_self c s.queue) ∙ ap called_by (asleep_self c None s.asleep)
 
 -- one that waits isn't woken
 pub entries_woken : (waits : Bool) (n q : ℕ) (ring : List ℕ) → nat_eq q n ≡ false → entries q (woken waits n ring) ≡ entries q ring

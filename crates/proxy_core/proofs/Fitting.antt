@@ -30,7 +30,7 @@ use Rattle.conn_trace.specs.State.{Phase, InEvent, Relaying, Link, Absent, Asked
 use Rattle.conn_trace.specs.Tellings.{own}
 use Rattle.conn_trace.specs.Trace.{next_item, Unfolds}
 use Rattle.conn_trace.proofs.Stepping.{steps}
-use Rattle.conn.specs.RunsItems.{Passes, told_behind}
+use Rattle.conn.specs.RunsItems.{Passes}
 use Rattle.conn.specs.Servers.{run_notes}
 use Rattle.conn.specs.Settling.{closing, is_over, settling_at, took_all, given_up_at}
 use Rattle.shared_store.specs.Calls.{reply}
@@ -39,7 +39,7 @@ use Rattle.proxy_core.specs.Calls.{asker}
 use Rattle.proxy_core.specs.Fitting.{Fit, NotesFitEdges}
 use Rattle.record_model.specs.History.{store_of}
 use Rattle.proxy_core.specs.Live.{entry_note}
-use Rattle.proxy_core.specs.Moves.{MovesFailed, MovesLacks, MovesOn, MovesCome, MovesRing, MovesFront, MovesQueue, TurnNotes, MovesBy, RunsOn, RunsOut, RunsFailed}
+use Rattle.proxy_core.specs.Moves.{MovesFailed, MovesLacks, MovesOn, MovesCome, MovesRing, MovesFront, MovesQueue, TurnNotes, MovesBy, RunsOn, RunsOut, RunsFailed, told_last}
 use Rattle.proxy_core.specs.Others.{about, front}
 use Rattle.core_events.specs.Kinds.{kind_of}
 use Rattle.record_model.specs.Past.{Past, heard, shared}
@@ -51,8 +51,8 @@ use Rattle.proxy_core.specs.declared.call.Asked.{Asked as Call}
 use Rattle.run_config.specs.declared.config.Config.{Config}
 use Rattle.proxy_core.proofs.Drains.{longer_orderly}
 use Rattle.proxy_core.proofs.Finished.{heard_finish, stands_orderly, trace_finished}
-use Rattle.proxy_core.proofs.Framing.{touches}
-use Rattle.proxy_core.proofs.GroupNotes.{About, about_joined, closing_due, due_about, own_all, own_none, settling_due}
+use Rattle.proxy_core.proofs.Framing.{touches, about_last}
+use Rattle.proxy_core.proofs.GroupNotes.{About, about_joined, closing_due, due_about, own_all, own_none, settling_due, whole_notes}
 use Rattle.proxy_core.proofs.Linking.{RunLinked, fit_joined, linked_now, linked_then, longer_linked, run_linked}
 use Rattle.proxy_core.proofs.Members.{eq_same, eq_self}
 use Rattle.proxy_core.proofs.RunNotes.{about_runs, of_runs, runs_client}
@@ -60,7 +60,7 @@ use Rattle.proxy_core.proofs.ServerLaws.{ordered_longer, went_on}
 use Rattle.proxy_core.proofs.ServerLeft.{ordered_at}
 use Rattle.proxy_core.proofs.SoundPast.{front_served, leads_sound}
 use Rattle.proxy_core.proofs.ServerGone.{never}
-use Rattle.proxy_core.proofs.DueFits.{Begun, client_begun, fit_settling, fit_closing, HalvesThere, fit_behind, about_behind}
+use Rattle.proxy_core.proofs.DueFits.{Begun, client_begun, fit_settling, fit_closing, HalvesThere, fit_last}
 
 -- ---- a half-close is due on a connection that relays
 
@@ -205,7 +205,7 @@ module _ (C : Config) (past : Past) (old : State) (sound : Sound C past old) whe
           (subst P (sym same) (fit_settling over (given_up_at there) c met met (took_all there took Server) (took_all there took Client) d refl refl))
       by_failed false (inr k) = fit_told c group (note.Finish c Memory ∷ []) e k.notes (refl, tt) (refl, tt)
 
-  run_fits : (c : ℕ) (rest : List ℕ) (group : List Note) (new : State) → old.ring ≡ c ∷ rest → MovesFront C (heard c past) c rest group old new → Fit (own c group) (heard c past).edges
+  run_fits : (c : ℕ) (rest : List ℕ) (group : List Note) (new : State) → old.ring ≡ c ∷ rest → MovesFront C (heard c past) (shared past).moment c rest group old new → Fit (own c group) (heard c past).edges
   run_fits c rest group new ring m = by_failed (heard c past).failed refl m
     where
       h : Heard
@@ -219,7 +219,7 @@ module _ (C : Config) (past : Past) (old : State) (sound : Sound C past old) whe
           let notes = run_notes c sent (taken h) more in
           fit_told c group (notes ++ last) h.edges k (about_joined c notes last (about_runs c notes (of_runs c sent (taken h) more)) a) (fit_joined notes last h.edges f f')
 
-      by_failed : (b : Bool) → h.failed ≡ b → MatchBool b (RunsFailed h c rest group old new) (RunsOn C h c rest group old new ⊎ RunsOut C h c rest group old new) → Fit (own c group) h.edges
+      by_failed : (b : Bool) → h.failed ≡ b → MatchBool b (RunsFailed h c rest group old new) (RunsOn C h (shared past).moment c rest group old new ⊎ RunsOut C h c rest group old new) → Fit (own c group) h.edges
       by_failed true found k =
           let d = untaken_all h (old.places c) in
           fit_told c group (closing c h.edges d) h.edges k.notes (due_about c (closing c h.edges d) (closing_due c h.edges d)) (fit_closing c h.edges d)
@@ -228,7 +228,8 @@ module _ (C : Config) (past : Past) (old : State) (sound : Sound C past old) whe
           let d = untaken_all h (old.places c ++ k.more) in
           let e = edges_noted (run_notes c sent (taken h) k.more) h.edges in
           let r = front_fits c k.more k.at found v.0 v.1 k.items.passes in
-          behind k.more (told_behind k.turn (setup_of C h) (taken h) k.at c e d) k.items.noted (about_behind k.turn (setup_of C h) (taken h) k.at c e d) r.items (fit_behind k.turn (setup_of C h) (taken h) k.at c e d r.halves)
+          let m = (shared past).moment in
+          behind k.more (told_last k.turn (setup_of C h) (taken h) k.at c e d m) (whole_notes k.turn c m group k.told _ _ k.notes k.items.noted) (about_last k.turn (setup_of C h) (taken h) k.at c e d m) r.items (fit_last k.turn (setup_of C h) (taken h) k.at c e d m r.halves)
       by_failed false found (inr k) =
           let v = front_served C past c rest old ring (sound.each c) in
           let d = untaken_all h (old.places c ++ k.more) in
@@ -256,7 +257,7 @@ module _ (C : Config) (past : Past) (old : State) (sound : Sound C past old) whe
   own_fits : (v : EventKind) (group : List Note) (new : State) → MovesBy C past v group old new → Fit (own (about v old) group) (event_edges (about v old) v (heard (about v old) past).edges)
   own_fits (Accepts c vs from) group new m = accept_fits c group (event_edges c (Accepts c vs from) (heard c past).edges) m.notes
   own_fits (Comes c input) group new m = come_fits c input group new m
-  own_fits (Ticks moment) group new m = none_fits 0 group (heard 0 past).edges m.0
+  own_fits (Ticks moment) group new m = none_fits 0 group (heard 0 past).edges m.notes
   own_fits Turns group new m = queue_fits (store_of C past) (shared past).moment old.queue group new (heard (asker old.queue) past).edges m
   own_fits Runs group new m = ring_fits old.ring group new refl m
   own_fits (Marks pool member up) group new m = none_fits 0 group (heard 0 past).edges m.0

@@ -1,5 +1,5 @@
 -- An event changes one connection alone: the others see the same.
-use Rattle.std.proofs.Common.{◌≡◌, refl, sym, ap, subst, ◌∙◌, ℕ, List, [], ◌∷◌, ◌++◌, length, Bool, true, false, nat_eq, inl, inr, ◌⊎◌, if◌then◌else◌}
+use Rattle.std.proofs.Common.{◌≡◌, refl, sym, ap, subst, ◌∙◌, ℕ, List, [], ◌∷◌, ◌++◌, append-nil, length, Bool, true, false, nat_eq, inl, inr, ◌⊎◌, if◌then◌else◌, Option, Some, None}
 use Rattle.std.specs.Bool.{MatchBool}
 use Rattle.core_events.specs.declared.note.Cause.TheVariants.{Memory}
 use Rattle.core_events.specs.declared.note.Note.{Note}
@@ -16,10 +16,12 @@ use Rattle.shared_store.specs.Calls.{reply}
 use Rattle.conn_trace.specs.Item.{Item}
 use Rattle.conn_trace.specs.Tellings.{tells, conn_of}
 use Rattle.conn_trace.proofs.Hearing.{others_not_heard}
-use Rattle.proxy_core.specs.Calls.{calls_of, is_any, asker, queue_behind}
+use Rattle.proxy_core.specs.Calls.{calls_of, is_any, asker, queue_behind, sleep_note}
+use Rattle.record_model.specs.Clock.{is_due}
 use Rattle.record_model.specs.History.{store_of}
-use Rattle.proxy_core.specs.Moves.{Rests, is_drained_at, came, lacked, ran, MovesFailed, MovesLacks, MovesOn, MovesCome, RunsOn, RunsOut, RunsFailed, MovesRing, TurnNotes, MovesQueue, MovesBy}
+use Rattle.proxy_core.specs.Moves.{Rests, is_drained_at, asleep_behind, came, lacked, ran, sleeps_on, told_last, wakes, MovesTick, MovesFailed, MovesLacks, MovesOn, MovesCome, RunsOn, RunsOut, RunsFailed, MovesRing, TurnNotes, MovesQueue, MovesBy}
 use Rattle.proxy_core.specs.declared.call.Asked.{Asked}
+use Rattle.proxy_core.specs.declared.call.Asleep.{Asleep}
 use Rattle.proxy_core.specs.Others.{about, front}
 use Rattle.record_model.specs.Past.{Past, heard, ended_in, without_all, with_accepted, shared}
 use Rattle.proxy_core.specs.Ready.{is_in, ring_behind, with_ready, without}
@@ -31,10 +33,10 @@ use Rattle.conn_trace.specs.Setup.{Setup}
 use Rattle.conn_trace.specs.State.{TraceState}
 use Rattle.core_events.specs.declared.edges.Edges.{Edges}
 use Rattle.conn.specs.declared.turn.ConnTurn.{ConnTurn}
-use Rattle.proxy_core.specs.Scheduler.{State, entries, Seen, seen, seen_after, untaken_all}
+use Rattle.proxy_core.specs.Scheduler.{State, called_by, entries, open_calls, Seen, seen, seen_after, untaken_all, with_asleep}
 use Rattle.run_config.specs.declared.config.Config.{Config}
-use Rattle.proxy_core.proofs.Entries.{entries_behind, entries_pushed, entries_rest, entries_without, entries_ready, entries_woken, calls_behind, calls_rest, calls_without}
-use Rattle.proxy_core.proofs.GroupNotes.{About, about_joined, closing_due, due_about, own_none, resting_due, settling_due}
+use Rattle.proxy_core.proofs.Entries.{entries_behind, entries_pushed, entries_rest, entries_without, entries_ready, entries_woken, asleep_other, calls_behind, calls_joined, calls_rest, calls_without, open_with}
+use Rattle.proxy_core.proofs.GroupNotes.{About, about_joined, closing_due, due_about, own_none, resting_due, settling_due, sleep_due, whole_notes}
 use Rattle.record_model.specs.Setup.{setup_of, stand_of}
 use Rattle.conn.specs.Settling.{is_over, took_all}
 use Rattle.conn_trace.specs.Trace.{next_item}
@@ -72,7 +74,7 @@ ended_other c q (n ∷ group) live a e = by_end (tells n).ends (λ ns. ended_oth
 pub record Touches (c : ℕ) (group : List Note) (old new : State) : Type 0 where
   pub notes : About c group
   pub ready : (q : ℕ) → nat_eq c q ≡ false → entries q new.ring ≡ entries q old.ring
-  pub asked : (q : ℕ) → nat_eq c q ≡ false → calls_of q new.queue ≡ calls_of q old.queue
+  pub asked : (q : ℕ) → nat_eq c q ≡ false → open_calls q new ≡ open_calls q old
   pub place : (q : ℕ) → nat_eq c q ≡ false → new.places q ≡ old.places q
   pub spent : (q : ℕ) → nat_eq c q ≡ false → new.spent q ≡ old.spent q
 
@@ -90,7 +92,7 @@ comes_touch over c group notes old new a e f = touched c group notes old new (ca
   where
     by_end : (b : Bool) (q : ℕ) → nat_eq c q ≡ false → entries q (came c b old).ring ≡ entries q old.ring
     by_end true q h = entries_without c q old.ring (eq_turned c q h)
-    by_end false q h = entries_woken (is_any (calls_of c old.queue)) c q old.ring (eq_turned c q h)
+    by_end false q h = entries_woken (is_any (open_calls c old)) c q old.ring (eq_turned c q h)
 
 -- what is due is about it
 pub about_settling : (g : Setup) (took : TakenCounts) (at : TraceState) (c : ℕ) (e : Edges) (d : ℕ) → About c (settling_at g took at c e d)
@@ -103,13 +105,16 @@ about_behind t g took at c e d = by_rest (is_resting t)
     by_rest true = due_about c (resting g took at c e d) (resting_due g took at c e d)
     by_rest false = tt
 
+pub about_last : (t : ConnTurn) (g : Setup) (took : TakenCounts) (at : TraceState) (c : ℕ) (e : Edges) (d moment : ℕ) → About c (told_last t g took at c e d moment)
+about_last t g took at c e d moment = about_joined c (told_behind t g took at c e d) (sleep_note t c moment) (about_behind t g took at c e d) (due_about c (sleep_note t c moment) (sleep_due t c moment))
+
 -- the front ran: its notes are about it
-ran_touch : (c : ℕ) (rest after : List ℕ) (queue : List Asked) (more : List Item) (slices : ℕ) (group notes : List Note) (old new : State) → old.ring ≡ c ∷ rest → ((q : ℕ) → nat_eq q c ≡ false → entries q after ≡ entries q rest) → ((q : ℕ) → nat_eq q c ≡ false → calls_of q queue ≡ calls_of q old.queue) → group ≡ notes → About c notes → new ≡ ran c after queue more slices old → Touches c group old new
-ran_touch c rest after queue more slices group notes old new front_is others calls e a f =
-    touched c group notes old new (ran c after queue more slices old) e f (record {
+ran_touch : (c : ℕ) (rest after : List ℕ) (queue : List Asked) (o : Option Asleep) (more : List Item) (slices : ℕ) (group notes : List Note) (old new : State) → old.ring ≡ c ∷ rest → ((q : ℕ) → nat_eq q c ≡ false → entries q after ≡ entries q rest) → ((q : ℕ) → nat_eq q c ≡ false → calls_of q queue ≡ calls_of q old.queue) → group ≡ notes → About c notes → new ≡ ran c after queue o more slices old → Touches c group old new
+ran_touch c rest after queue o more slices group notes old new front_is others calls e a f =
+    touched c group notes old new (ran c after queue o more slices old) e f (record {
       notes = a;
       ready = λ q h. others q (eq_turned c q h) ∙ entries_rest c q rest (eq_turned c q h) ∙ ap (entries q) (sym front_is);
-      asked = λ q h. calls q (eq_turned c q h);
+      asked = λ q h. ap (λ x. x ++ called_by (with_asleep c o old.asleep q)) (calls q (eq_turned c q h)) ∙ ap (open_with q old.queue) (asleep_other c q o old.asleep h);
       place = λ q h. rw h refl;
       spent = λ q h. rw h refl;
     })
@@ -118,7 +123,7 @@ by_ring : (C : Config) (past : Past) (ring : List ℕ) (group : List Note) (old 
 by_ring C past [] group old new e m = rests 0 group old new m
 by_ring C past (c ∷ rest) group old new e m = by_failed (heard c past).failed m
   where
-    by_failed : (b : Bool) → MatchBool b (RunsFailed (heard c past) c rest group old new) (RunsOn C (heard c past) c rest group old new ⊎ RunsOut C (heard c past) c rest group old new) → Touches c group old new
+    by_failed : (b : Bool) → MatchBool b (RunsFailed (heard c past) c rest group old new) (RunsOn C (heard c past) (shared past).moment c rest group old new ⊎ RunsOut C (heard c past) c rest group old new) → Touches c group old new
     by_failed true k =
         let notes = closing c (heard c past).edges (untaken_all (heard c past) (old.places c)) in
         touched c group notes old new (record old { ring = rest }) k.notes k.state (record { notes = due_about c notes (closing_due c (heard c past).edges (untaken_all (heard c past) (old.places c))); ready = λ q h. entries_rest c q rest (eq_turned c q h) ∙ ap (entries q) (sym e); asked = λ q h. refl; place = λ q h. refl; spent = λ q h. refl })
@@ -128,16 +133,18 @@ by_ring C past (c ∷ rest) group old new e m = by_failed (heard c past).failed 
         let about = about_runs c notes (of_runs c (stand_of C h (old.places c)).sent (taken h) k.more) in
         let ends = edges_noted notes h.edges in
         let d = untaken_all h (old.places c ++ k.more) in
-        let behind = told_behind k.turn (setup_of C h) (taken h) k.at c ends d in
-        ran_touch c rest (ring_behind k.turn c rest) (queue_behind k.turn c old.queue) k.more (slices_in k.turn (length group)) group (notes ++ behind) old new e (λ q h. entries_behind k.turn c q rest h) (λ q h. calls_behind k.turn c q old.queue h) k.items.noted
-        (about_joined c notes behind about (about_behind k.turn (setup_of C h) (taken h) k.at c ends d)) k.state
+        let m = (shared past).moment in
+        let behind = told_last k.turn (setup_of C h) (taken h) k.at c ends d m in
+        ran_touch c rest (ring_behind k.turn c rest) (queue_behind k.turn c old.queue) (asleep_behind k.turn c m (old.asleep c)) k.more (slices_in k.turn (length k.told)) group (notes ++ behind) old new e (λ q h. entries_behind k.turn c q rest h) (λ q h. calls_behind k.turn c q old.queue h)
+        (whole_notes k.turn c m group k.told notes _ k.notes k.items.noted)
+        (about_joined c notes behind about (about_last k.turn (setup_of C h) (taken h) k.at c ends d m)) k.state
     by_failed false (inr k) =
         let h = heard c past in
         let notes = run_notes c (stand_of C h (old.places c)).sent (taken h) k.more in
         let about = about_runs c notes (of_runs c (stand_of C h (old.places c)).sent (taken h) k.more) in
         let ends = edges_noted notes h.edges in
         let d = untaken_all h (old.places c ++ k.more) in
-        ran_touch c rest rest old.queue k.more 0 group (notes ++ Finish c Memory ∷ closing c ends d) old new e (λ q h. refl) (λ q h. refl) k.notes
+        ran_touch c rest rest old.queue (old.asleep c) k.more 0 group (notes ++ Finish c Memory ∷ closing c ends d) old new e (λ q h. refl) (λ q h. refl) k.notes
         (about_joined c notes (Finish c Memory ∷ closing c ends d) about (refl, due_about c (closing c ends d) (closing_due c ends d))) k.state
 
 by_input : (C : Config) (past : Past) (c : ℕ) (input : Input) (group : List Note) (old new : State) → MovesCome C input (heard c past) (hears c (heard c past) (Comes c input) group) c group old new → Touches c group old new
@@ -153,7 +160,7 @@ by_input C past c input group old new m = by_failed (heard c past).failed m
         let e = edges_met input (heard c past).edges in
         let d = untaken_all now (old.places c) in
         comes_touch (is_drained_at C now (old.places c)) c group (settling_at (setup_of C now) (taken now) at c e d) old new (about_settling (setup_of C now) (taken now) at c e d) k.notes k.state
-    by_failed false (inr k) = touched c group (Finish c Memory ∷ []) old new (lacked c old) k.notes k.state (record { notes = (refl, tt); ready = λ q h. entries_ready c q old.ring (eq_turned c q h); asked = λ q h. calls_without c q old.queue (eq_turned c q h); place = λ q h. refl; spent = λ q h. refl })
+    by_failed false (inr k) = touched c group (Finish c Memory ∷ []) old new (lacked c old) k.notes k.state (record { notes = (refl, tt); ready = λ q h. entries_ready c q old.ring (eq_turned c q h); asked = λ q h. ap (λ x. x ++ called_by (with_asleep c None old.asleep q)) (calls_without c q old.queue (eq_turned c q h)) ∙ ap (open_with q old.queue) (asleep_other c q None old.asleep h); place = λ q h. refl; spent = λ q h. refl })
 
 by_accept : (c : ℕ) (group : List Note) (old new : State) → (group ≡ []) ⊎ (group ≡ Finish c Memory ∷ []) → new ≡ record old { ring = old.ring ++ c ∷ [] } → Touches c group old new
 by_accept c group old new e f = by_notes e
@@ -177,15 +184,39 @@ by_queue store moment (a ∷ rest) group old new e m =
     touched a.conn group group old new (record old { ring = with_ready old.ring a.conn; queue = rest }) refl m.state (record {
       notes = about_turn a moment (reply store moment a.call).reply group m.notes;
       ready = λ q h. entries_ready a.conn q old.ring (eq_turned a.conn q h);
-      asked = λ q h. calls_rest q a rest (eq_turned a.conn q h) ∙ ap (calls_of q) (sym e);
+      asked = λ q h. ap (λ x. x ++ called_by (old.asleep q)) (calls_rest q a rest (eq_turned a.conn q h) ∙ ap (calls_of q) (sym e));
       place = λ q h. refl;
       spent = λ q h. refl;
     })
 
+-- calls that wake stay open
+pub woken_open : (calls woken : List (List (List ℕ))) (moment : ℕ) (o : Option Asleep) → woken ≡ called_by (wakes moment o) → (calls ++ woken) ++ called_by (sleeps_on moment o) ≡ calls ++ called_by o
+woken_open calls woken moment None e = append-nil (calls ++ woken) ∙ ap (λ x. calls ++ x) e
+woken_open calls woken moment (Some a) e = by_test (is_due moment a.due) e
+  where
+    by_test : (b : Bool) → woken ≡ called_by (if b then Some a else None) → (calls ++ woken) ++ called_by (if b then None else Some a) ≡ calls ++ a.call ∷ []
+    by_test true k = append-nil (calls ++ woken) ∙ ap (λ x. calls ++ x) k
+    by_test false k = ap (λ x. (calls ++ x) ++ a.call ∷ []) k ∙ ap (λ x. x ++ a.call ∷ []) (append-nil calls)
+
+pub tick_open : (moment : ℕ) (group : List Note) (old new : State) → MovesTick moment group old new → (q : ℕ) → open_calls q new ≡ open_calls q old
+tick_open moment group old new m q =
+    ap (open_calls q) m.state ∙ ap (λ x. x ++ called_by (sleeps_on moment (old.asleep q))) (calls_joined q old.queue m.calls) ∙ woken_open (calls_of q old.queue) (calls_of q m.calls) moment (old.asleep q) (m.woken q)
+
+by_tick : (moment : ℕ) (group : List Note) (old new : State) → MovesTick moment group old new → Touches 0 group old new
+by_tick moment group old new m =
+    let P : List Note → Type 0 = λ g. About 0 g in
+    record {
+      notes = subst P (sym m.notes) tt;
+      ready = λ q e. ap (λ s. entries q s.ring) m.state;
+      asked = λ q e. tick_open moment group old new m q;
+      place = λ q e. ap (λ s. s.places q) m.state;
+      spent = λ q e. ap (λ s. s.spent q) m.state;
+    }
+
 pub touches : (C : Config) (past : Past) (v : EventKind) (group : List Note) (old new : State) → MovesBy C past v group old new → Touches (about v old) group old new
 touches C past (Accepts c vs from) group old new m = by_accept c group old new m.notes m.state
 touches C past (Comes c input) group old new m = by_input C past c input group old new m
-touches C past (Ticks moment) group old new m = rests 0 group old new m
+touches C past (Ticks moment) group old new m = by_tick moment group old new m
 touches C past Turns group old new m = by_queue (store_of C past) (shared past).moment old.queue group old new refl m
 touches C past Runs group old new m = by_ring C past old.ring group old new refl m
 touches C past (Marks pool member up) group old new m = rests 0 group old new m

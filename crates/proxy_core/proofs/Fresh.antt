@@ -8,12 +8,11 @@ use Rattle.core_events.specs.declared.note.Note.TheVariants.{Finish}
 use Rattle.core_events.specs.Edges.{accepted_edges}
 use Rattle.core_events.specs.declared.event_kind.EventKind.TheVariants.{Accepts}
 use Rattle.conn_trace.specs.Heard.{Accepted, nothing_heard, hears}
-use Rattle.proxy_core.specs.Calls.{calls_of}
 use Rattle.record_model.specs.Past.{Past, ended_in, shared, without_all}
 use Rattle.proxy_core.specs.Ready.{is_in}
 use Rattle.record_model.specs.Refusal.{Row, first_of, refusal_rows}
 use Rattle.proxy_core.specs.Refusal.{known, refused}
-use Rattle.proxy_core.specs.Scheduler.{Seen, State, entries, seen, seen_after}
+use Rattle.proxy_core.specs.Scheduler.{Seen, State, entries, seen, seen_after, open_calls}
 use Rattle.proxy_core.specs.Sound.{Sound, unseen}
 use Rattle.run_config.specs.declared.config.Config.{Config}
 use Rattle.proxy_core.proofs.Entries.{entries_pushed_self}
@@ -50,7 +49,7 @@ seen_accept past c a failed group old new u e f =
     (ap (λ h. hears c h v group) (ap (λ z. z.heard) u) ∙ ap (hears c nothing_heard v) e ∙ first_heard c a failed)
     (ap (λ g. is_in (without_all (ended_in g) ((shared past).live ++ c ∷ [])) c) e ∙ ap (λ ns. is_in ns c) (first_ended c failed ((shared past).live ++ c ∷ [])) ∙ in_pushed_self c (shared past).live)
     (ap (λ s. entries c s.ring) f ∙ entries_pushed_self c old.ring ∙ ap (λ z. z.ready ++ c ∷ []) u)
-    (ap (λ s. calls_of c s.queue) f ∙ ap (λ z. z.asked) u)
+    (ap (open_calls c) f ∙ ap (λ z. z.asked) u)
     (ap (λ s. s.places c) f ∙ ap (λ z. z.place) u) (ap (λ s. s.spent c) f ∙ ap (λ z. z.spent) u)
 
 -- no row of a list holds

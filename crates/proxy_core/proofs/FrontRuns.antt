@@ -7,9 +7,10 @@ use Rattle.conn.specs.declared.turn.ConnTurn.TheVariants as turn
 use Rattle.proxy_core.specs.Ready.{ring_behind}
 use Rattle.proxy_core.specs.declared.core_state.Core.{Core}
 use Rattle.core_events.specs.declared.note.Note.{Note}
-use Rattle.proxy_core.specs.Calls.{kept_calls}
+use Rattle.proxy_core.specs.Calls.{kept_calls, kept_sleepers}
 use Rattle.proxy_core.specs.Changes.{RunsRing, RunsFront, Idles, TurnsAt, TurnsQueue}
 use Rattle.proxy_core.specs.declared.call.Asked.{Asked}
+use Rattle.proxy_core.specs.declared.call.Asleep.{Asleep}
 
 pub front_runs : (old new : Core) (ring rest : List ℕ) (n : ℕ) (group : List Note) (steps : ℕ) → ring ≡ n ∷ rest → RunsFront old new n rest group steps → RunsRing old new ring group steps
 front_runs old new ring rest n group steps e h = let P : List ℕ → Type 0 = λ r. RunsRing old new r group steps in subst P (sym e) h
@@ -22,6 +23,11 @@ pub front_turns : (old new : Core) (queue rest : List Asked) (a : Asked) (group 
 front_turns old new queue rest a group e h = let P : List Asked → Type 0 = λ q. TurnsQueue old new q group in subst P (sym e) (inr h)
 
 -- one that waits as before leaves the calls
+pub same_sleepers : (waited waits : Bool) (c : ℕ) (asleep : List Asleep) → waits ≡ waited → kept_sleepers waited waits c asleep ≡ asleep
+same_sleepers true true c asleep e = refl
+same_sleepers true false c asleep e = cc
+same_sleepers false waits c asleep e = refl
+
 pub kept_same : (waited waits : Bool) (c : ℕ) (queue : List Asked) → waits ≡ waited → kept_calls waited waits c queue ≡ queue
 kept_same true true c queue e = refl
 kept_same true false c queue e = cc

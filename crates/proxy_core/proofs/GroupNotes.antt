@@ -1,5 +1,5 @@
 -- The notes of one event: about which connection, and what they tell.
-use Rattle.std.proofs.Common.{◌≡◌, refl, ap, ◌∙◌, ℕ, List, [], ◌∷◌, ◌++◌, Bool, true, false, not, ◌&&◌, Option, Some, None, map, nat_eq, if◌then◌else◌}
+use Rattle.std.proofs.Common.{◌≡◌, refl, ap, ◌∙◌, ℕ, List, [], ◌∷◌, ◌++◌, append_assoc, Bool, true, false, not, ◌&&◌, Option, Some, None, map, nat_eq, if◌then◌else◌}
 use Rattle.std.proofs.lemmas.List.{map-append}
 use Rattle.std.proofs.lemmas.Grind.{flat_map-append}
 use Rattle.std.specs.List.{filter, list_any}
@@ -22,6 +22,10 @@ use Rattle.conn_trace.specs.Item.{Item, Reason, Closed, Tcl, Http, Unselected, R
 use Rattle.conn_trace.specs.Tellings.{tells, conn_of, own, notes_about, replies_told, choices_told, cut_by, cut_told, finish_told, failure_told}
 use Rattle.record_model.specs.History.{called_in, entries_in, entry_in}
 use Rattle.record_model.specs.Past.{ended_in}
+use Rattle.record_model.specs.Clock.{wakes_at}
+use Rattle.conn.specs.declared.turn.ConnTurn.{ConnTurn}
+use Rattle.conn.specs.declared.turn.ConnTurn.TheVariants as turn
+use Rattle.proxy_core.specs.Calls.{sleep_note, sleeps}
 use Rattle.proxy_core.specs.Shown.{shows, closes}
 use Rattle.proxy_core.proofs.Members.{eq_self}
 
@@ -205,6 +209,20 @@ due_quiet c notes h = quiet_by c notes (due_about c notes h) (due_replies c note
 due_if : (c : ℕ) (b : Bool) (n : Note) → IsDue c n → AreDue c (note_if b n)
 due_if c true n h = (h, tt)
 due_if c false n h = tt
+
+-- until when a call sleeps
+sleep_is_due : (c until : ℕ) → IsDue c (note.Sleep c until)
+sleep_is_due c until = record { about = refl; reply = refl; choice = refl; cut = refl; finishes = refl; fails = refl; hidden = refl; none = refl; asks = λ e is. is }
+
+pub sleep_due : (t : ConnTurn) (c moment : ℕ) → AreDue c (sleep_note t c moment)
+sleep_due (turn.Asks call) c moment = due_if c (sleeps call) (note.Sleep c (wakes_at moment call)) (sleep_is_due c (wakes_at moment call))
+sleep_due turn.More c moment = tt
+sleep_due turn.NotYet c moment = tt
+sleep_due turn.Over c moment = tt
+
+-- what was told of a Run, and the note that its call sleeps
+pub whole_notes : (t : ConnTurn) (c moment : ℕ) (group told items behind : List Note) → group ≡ told ++ sleep_note t c moment → told ≡ items ++ behind → group ≡ items ++ (behind ++ sleep_note t c moment)
+whole_notes t c moment group told items behind e f = e ∙ ap (λ x. x ++ sleep_note t c moment) f ∙ append_assoc items behind (sleep_note t c moment)
 
 half_is_due : (c : ℕ) (side : Side) → IsDue c (note.HalfClose c side)
 half_is_due c Client = record { about = refl; reply = refl; choice = refl; cut = refl; finishes = refl; fails = refl; hidden = refl; none = refl; asks = λ e is. is }

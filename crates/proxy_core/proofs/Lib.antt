@@ -45,6 +45,7 @@ pub mod SoundLacks
 pub mod SoundTurns
 pub mod SoundRuns
 pub mod SoundPast
+pub mod Clocks
 pub mod LateHeard
 pub mod Others
 pub mod Answering
@@ -52,6 +53,7 @@ pub mod DueFits
 pub mod Fitting
 pub mod HeardServers
 pub mod Numbered
+pub mod Sleeping
 pub mod Promises
 pub mod Ordering
 pub mod BodyPlaces
@@ -59,6 +61,7 @@ pub mod InitRuns
 pub mod Setups
 pub mod Fresh
 pub mod Agreeing
+pub mod Sleepers
 pub mod ComesAgrees
 pub mod Counting
 pub mod RunAgrees
@@ -68,8 +71,11 @@ pub mod FrontRuns
 pub mod Waiting
 pub mod Wanted
 pub mod Stepping
+pub mod Wakes
+pub mod Due
 pub mod Asked
 pub mod Arriving
 pub mod BytesBounded
 pub mod Taking
+pub mod Waking
 pub mod Determined

@@ -20,7 +20,7 @@ use Rattle.core_events.specs.declared.note.Note.{Note}
 use Rattle.conn.specs.Calls.{answered_by, more_at_last, none_at_last, unless_finished}
 use Rattle.conn.specs.Ends.{has_stream, heard_by, heard_end}
 use Rattle.conn.specs.Holds.{Around}
-use Rattle.conn.specs.declared.ends.End.{End}
+use Rattle.conn.specs.declared.ends.ConnectionEnd.{ConnectionEnd}
 use Rattle.conn.specs.declared.ends.Ends.{Ends as BothEnds}
 use Rattle.proxy_core.specs.Live.{ends_met, further_in, met_by}
 use Rattle.proxy_core.specs.Represents.{around}
@@ -390,7 +390,7 @@ client_counted late (Connects made) true a = omega arith
 client_counted late (Connects true) false a = omega arith
 client_counted late (Connects false) false a = omega arith
 
-pub heard_queued : (b : Bool) (c : Coming) (e : End) → (heard_by b c e).queued ≡ e.queued
+pub heard_queued : (b : Bool) (c : Coming) (e : ConnectionEnd) → (heard_by b c e).queued ≡ e.queued
 heard_queued true c e = refl
 heard_queued false c e = refl
 

@@ -2,7 +2,7 @@
 use Rattle.std.proofs.Common.{◌≡◌, refl, sym, ap, ◌∙◌, ℕ, zero, suc, ◌+◌, ◌<◌, List, [], ◌∷◌, ◌++◌, take, length, get_or, Bool, true, false, Some, None, nat_le, arith, if◌then◌else◌, flat_map, append_assoc, append-nil}
 use Rattle.std.specs.List.{insert, position_from}
 use Rattle.std.specs.Prelude.{slice_get, slice_index_or}
-use Rattle.rule_loader.specs.declared.handler.Handler as loaded
+use Rattle.rule_loader.specs.declared.handler.EventHandler as loaded
 use Rattle.conn.specs.declared.setup.Place.{Place}
 use Rattle.proxy_core.specs.Bodies.{place_priority, placed}
 use Rattle.record_model.specs.Order.{put}
@@ -53,7 +53,7 @@ flat_more f (y ∷ xs) (suc i) x e =
     ap (λ n. flat_map f (take n (y ∷ xs))) next ∙ ap (λ r. f y ++ r) (flat_more f xs i x e) ∙ sym (append_assoc (f y) (flat_map f (take i xs)) (f x))
 
 -- one more body of a rule
-pub placed_more : (rule from : ℕ) (hs : List loaded.Handler) (i : ℕ) (h : loaded.Handler) → slice_get hs i ≡ Some h → placed rule from (take (i + 1) hs) ≡ placed rule from (take i hs) ++ record { rule = rule; number = from + i; priority = h.priority } ∷ []
+pub placed_more : (rule from : ℕ) (hs : List loaded.EventHandler) (i : ℕ) (h : loaded.EventHandler) → slice_get hs i ≡ Some h → placed rule from (take (i + 1) hs) ≡ placed rule from (take i hs) ++ record { rule = rule; number = from + i; priority = h.priority } ∷ []
 placed_more rule from [] zero h e = absurd (cc)
 placed_more rule from [] (suc i) h e = absurd (cc)
 placed_more rule from (x ∷ hs) zero h e =

@@ -1,5 +1,5 @@
 -- Parts of the promise, of a connection of which `Served` holds.
-use Rattle.std.proofs.Common.{◌≡◌, refl, sym, ap, subst, ◌∙◌, ℕ, ◌+◌, ◌≤◌, List, [], ◌∷◌, ◌++◌, length, take, map, Bool, true, false, ◌&&◌, ◌||◌, true≢false, not, nat_eq, arith, eqb-true, append-nil, is_none, zero-add, ◌-◌}
+use Rattle.std.proofs.Common.{◌≡◌, refl, sym, ap, subst, ◌∙◌, ℕ, ◌+◌, ◌≤◌, List, [], ◌∷◌, ◌++◌, length, take, map, Bool, true, false, ◌&&◌, ◌||◌, true≢false, not, nat_eq, arith, eqb-true, append-nil, is_none, zero-add, ◌-◌, Option, Some, None, is_some}
 use Rattle.std.proofs.lemmas.Bool.{and_parts}
 use Rattle.std.proofs.lemmas.List.{take-append-le}
 use Rattle.std.proofs.lemmas.Grind.{flat_map-append}
@@ -13,9 +13,9 @@ use Rattle.conn_trace.specs.Further.{is_some_of}
 use Rattle.conn_trace.specs.Gates.{Counts, TakenCounts, no_bytes, to_take, untaken}
 use Rattle.conn_trace.specs.Heard.{Heard, taken, taken_by}
 use Rattle.conn_trace.specs.Item.{Item, Reason, cause_of, to_client, to_server, client_output, server_output, notes_of, reasons_in}
-use Rattle.conn_trace.specs.Laws.{Stops, cut_is_taken}
+use Rattle.conn_trace.specs.Laws.{Stops, cut_is_taken, takes_cut}
 use Rattle.conn_trace.specs.Setup.{Setup}
-use Rattle.conn_trace.specs.State.{TraceState, Next, Does, Waits, Over, link_of}
+use Rattle.conn_trace.specs.State.{TraceState, Next, Does, Waits, Over, link_of, ForReply}
 use Rattle.conn_trace.specs.Trace.{next_item, trace, GivesNoMore}
 use Rattle.conn_trace.proofs.Given.{sent_output}
 use Rattle.conn_trace.proofs.Stepping.{finishes_once}
@@ -30,10 +30,11 @@ use Rattle.core_events.specs.declared.note.CutReason.{CutReason}
 use Rattle.core_events.specs.declared.note.CutReason.TheVariants.{ClientReset, ServerReset, Idle}
 use Rattle.conn.specs.RunsItems.{cut_due, is_cut, licenses}
 use Rattle.conn.specs.Settling.{half_close, is_drained, is_over, note_if, settling_at}
+use Rattle.proxy_core.specs.declared.call.Asleep.{Asleep}
 use Rattle.proxy_core.specs.Calls.{calls_of}
 use Rattle.proxy_core.specs.Headline.{first_items, SentIsPrefix, IsSettled, EntriesAreCalls}
 use Rattle.record_model.specs.Past.{Past, heard}
-use Rattle.proxy_core.specs.Scheduler.{State, entries, Seen, seen, untaken_of}
+use Rattle.proxy_core.specs.Scheduler.{State, entries, Seen, seen, untaken_of, called_by, open_calls}
 use Rattle.proxy_core.specs.Servers.{took_of}
 use Rattle.record_model.specs.Setup.{setup_of, begins_at, stand_of}
 use Rattle.proxy_core.specs.Shown.{causes_behind}
@@ -69,19 +70,19 @@ sent_is_prefix C c z k =
     }
 
 -- where all is taken and no more may be given, the trace stops
-stops_at : (sent : Counts) (took : TakenCounts) (o : Next) → to_take sent took Client ≡ 0 → to_take sent took Server ≡ 0 → GivesNoMore false sent took o → Stops o
-stops_at sent took (Does i m) c s k = let t = taken_all_opens i sent took c s in let e : true ≡ false = sym t ∙ k in cc
-stops_at sent took (Waits w) c s k = tt
-stops_at sent took Over c s k = tt
+stops_at : (asleep : Bool) (sent : Counts) (took : TakenCounts) (o : Next) → to_take sent took Client ≡ 0 → to_take sent took Server ≡ 0 → GivesNoMore asleep sent took o → Stops o
+stops_at asleep sent took (Does i m) c s k = let t = taken_all_opens i sent took c s in let e : true ≡ false = sym t ∙ k in cc
+stops_at asleep sent took (Waits w) c s k = tt
+stops_at asleep sent took Over c s k = tt
 
 -- and is whole
-pub drained_is_whole : (C : Config) (c : ℕ) (z : Seen) (k : Served C c z) → untaken_of z.heard z.place Client ≡ 0 → untaken_of z.heard z.place Server ≡ 0
-    → GivesNoMore false (stand_of C z.heard z.place).sent (taken z.heard) (next_item (setup_of C z.heard) (stand_of C z.heard z.place)) → (n : ℕ) → first_items C z.heard (length z.place + n) ≡ z.place
-drained_is_whole C c z k client server gives n =
+pub drained_is_whole : (asleep : Bool) (C : Config) (c : ℕ) (z : Seen) (k : Served C c z) → untaken_of z.heard z.place Client ≡ 0 → untaken_of z.heard z.place Server ≡ 0
+    → GivesNoMore asleep (stand_of C z.heard z.place).sent (taken z.heard) (next_item (setup_of C z.heard) (stand_of C z.heard z.place)) → (n : ℕ) → first_items C z.heard (length z.place + n) ≡ z.place
+drained_is_whole asleep C c z k client server gives n =
     let l = stand_of C z.heard z.place in
     let e = sent_at (setup_of C z.heard) z.heard z.place l k.stands in
     stopped_is_whole n (setup_of C z.heard) (begins_at C z.heard) l z.place k.stands
-    (stops_at l.sent (taken z.heard) (next_item (setup_of C z.heard) l) (ap (λ s. to_take s (taken z.heard) Client) e ∙ client) (ap (λ s. to_take s (taken z.heard) Server) e ∙ server) gives)
+    (stops_at asleep l.sent (taken z.heard) (next_item (setup_of C z.heard) l) (ap (λ s. to_take s (taken z.heard) Client) e ∙ client) (ap (λ s. to_take s (taken z.heard) Server) e ∙ server) gives)
 
 over_stops : (o : Next) → o ≡ Over → Stops o
 over_stops o e = let P : Next → Type 0 = λ n. Stops n in subst P (sym e) tt
@@ -111,12 +112,46 @@ at_end false false (y ∷ ys) asked g took l x e f s = absurd s
 at_end true live ready asked g took l x e f s = cc
 at_end false true ready asked g took l x e f s = cc
 
-pub settled_at : (C : Config) (c : ℕ) (s : State) (z : Seen) → z.ready ≡ entries c s.ring → z.asked ≡ calls_of c s.queue → Served C c z → IsSettled s → z.live ≡ true
-    → (z.heard.failed ≡ false) × Rested (setup_of C z.heard) (taken z.heard) (stand_of C z.heard z.place) z.heard.edges
+-- a call waits that sleeps
+at_call : (failed live : Bool) (call : List (List ℕ)) (g : Setup) (took : TakenCounts) (l : TraceState) (e : Edges) → live ≡ true → Spot failed live [] (call ∷ []) g took l e → (failed ≡ false) × (next_item g l ≡ Waits (ForReply call))
+at_call false true call g took l x e s = (refl, s)
+at_call true true call g took l x e s = absurd s
+at_call failed false call g took l x e s = cc
+
+-- where it is settled: it rests, or its call sleeps
+abbrev pub AtRest : Setup → TakenCounts → TraceState → Edges → Option Asleep → Type 0
+AtRest g took l e None = Rested g took l e
+AtRest g took l e (Some a) = next_item g l ≡ Waits (ForReply a.call)
+
+pub settled_at : (C : Config) (c : ℕ) (s : State) (z : Seen) → z.ready ≡ entries c s.ring → z.asked ≡ open_calls c s → Served C c z → IsSettled s → z.live ≡ true
+    → (z.heard.failed ≡ false) × AtRest (setup_of C z.heard) (taken z.heard) (stand_of C z.heard z.place) z.heard.edges (s.asleep c)
 settled_at C c s z is asks k e live =
     let P : List ℕ → Type 0 = λ r. Spot z.heard.failed z.live r z.asked (setup_of C z.heard) (taken z.heard) (stand_of C z.heard z.place) z.heard.edges in
     let Q : List (List (List ℕ)) → Type 0 = λ a. Spot z.heard.failed z.live [] a (setup_of C z.heard) (taken z.heard) (stand_of C z.heard z.place) z.heard.edges in
-    at_rest z.heard.failed z.live (setup_of C z.heard) (taken z.heard) (stand_of C z.heard z.place) z.heard.edges live (subst Q (asks ∙ ap (calls_of c) e.none_asks) (subst P (is ∙ ap (entries c) e.none_ready) k.spot))
+    by_asleep (s.asleep c) (subst Q (asks ∙ ap (λ q. calls_of c q ++ called_by (s.asleep c)) e.none_asks) (subst P (is ∙ ap (entries c) e.none_ready) k.spot))
+  where
+    by_asleep : (o : Option Asleep) → Spot z.heard.failed z.live [] (called_by o) (setup_of C z.heard) (taken z.heard) (stand_of C z.heard z.place) z.heard.edges
+        → (z.heard.failed ≡ false) × AtRest (setup_of C z.heard) (taken z.heard) (stand_of C z.heard z.place) z.heard.edges o
+    by_asleep None s = at_rest z.heard.failed z.live (setup_of C z.heard) (taken z.heard) (stand_of C z.heard z.place) z.heard.edges live s
+    by_asleep (Some a) s = at_call z.heard.failed z.live a.call (setup_of C z.heard) (taken z.heard) (stand_of C z.heard z.place) z.heard.edges live s
+
+-- it gives no more, but for the reply to the call that sleeps
+pub at_rest_gives : (g : Setup) (took : TakenCounts) (l : TraceState) (e : Edges) (o : Option Asleep) → AtRest g took l e o → GivesNoMore (is_some o) l.sent took (next_item g l)
+at_rest_gives g took l e None r = r.gives_no_more
+at_rest_gives g took l e (Some a) r = subst (λ n. GivesNoMore true l.sent took n) (sym r) refl
+
+-- and no cut takes it
+pub asleep_not_cut : (g : Setup) (l : TraceState) (call : List (List ℕ)) (took : TakenCounts) (reason : CutReason) → next_item g l ≡ Waits (ForReply call) → cut_is_taken g (record { reason = reason; took = took }) l ≡ false
+asleep_not_cut g l call took reason e = ap (λ o. not l.finished && takes_cut g (record { reason = reason; took = took }) l.sent o) e ∙ by_reason reason
+  where
+    none : (b : Bool) → (b && false) ≡ false
+    none true = refl
+    none false = refl
+
+    by_reason : (r : CutReason) → (not l.finished && takes_cut g (record { reason = r; took = took }) l.sent (Waits (ForReply call))) ≡ false
+    by_reason ClientReset = none (not l.finished)
+    by_reason ServerReset = none (not l.finished)
+    by_reason Idle = none (not l.finished)
 
 -- an ended one's trace is over and its sides took all
 pub ended_at : (C : Config) (c : ℕ) (z : Seen) → Served C c z → z.live ≡ false → z.heard.failed ≡ false
@@ -260,9 +295,9 @@ not_live : (b : Bool) → (b ≡ true → ⊥) → b ≡ false
 not_live true n = absurd (n refl)
 not_live false n = refl
 
-pub settled_has_ended : (C : Config) (past : Past) (s : State) (c : ℕ) → Served C c (seen past s c) → IsSettled s → (heard c past).finished ≡ true
+pub settled_has_ended : (C : Config) (past : Past) (s : State) (c : ℕ) → Served C c (seen past s c) → IsSettled s → (heard c past).finished ≡ true → s.asleep c ≡ None
     → untaken_of (heard c past) (s.places c) Client ≡ 0 → untaken_of (heard c past) (s.places c) Server ≡ 0 → (seen past s c).live ≡ false
-settled_has_ended C past s c k e finished a b = not_live (seen past s c).live (λ live. by_rest (settled_at C c s (seen past s c) refl refl k e live))
+settled_has_ended C past s c k e finished none a b = not_live (seen past s c).live (λ live. (let r = settled_at C c s (seen past s c) refl refl k e live in by_rest (r.0, subst (λ o. AtRest g (taken z.heard) l z.heard.edges o) none r.1)))
   where
     z : Seen
     z = seen past s c

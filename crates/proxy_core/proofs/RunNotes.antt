@@ -24,6 +24,17 @@ use Rattle.proxy_core.proofs.Sums.{causes_of_items, causes_on, shown_items, show
 
 -- ---- one by one
 
+-- a note that a call sleeps, or is answered
+abbrev pub is_timed : Note → Bool
+is_timed (note.Sleep c until) = true
+is_timed (note.History c moment call reply) = true
+is_timed other = false
+
+shown_untimed : (n : Note) → shows n ≡ true → is_timed n ≡ false
+shown_untimed (note.Sleep c until) e = absurd (true≢false (sym e))
+shown_untimed (note.History c moment call reply) e = absurd (true≢false (sym e))
+shown_untimed other e = refl
+
 -- a note of a Run
 pub record OfRun (c : ℕ) (n : Note) : Type 0 where
   pub about : conn_of n ≡ c
@@ -33,6 +44,7 @@ pub record OfRun (c : ℕ) (n : Note) : Type 0 where
   pub none : entry_in n ≡ []
   pub goes_on : ends_it n ≡ false
   pub stays : closes_for_good n ≡ false
+  pub timeless : is_timed n ≡ false
 
 abbrev pub OfRuns : ℕ → List Note → Type 0
 OfRuns c [] = Unit {0}
@@ -45,7 +57,7 @@ open_goes_on (note.CloseServer c) e = absurd (true≢false e)
 open_goes_on other e = (refl, refl)
 
 as_run : (c : ℕ) (n : Note) → OfItem c n → OfRun c n
-as_run c n k = let g = open_goes_on n k.quiet in record { about = k.about; reply = k.reply; fails = k.fails; ends = k.ends; none = k.none; goes_on = g.0; stays = g.1 }
+as_run c n k = let g = open_goes_on n k.quiet in record { about = k.about; reply = k.reply; fails = k.fails; ends = k.ends; none = k.none; goes_on = g.0; stays = g.1; timeless = shown_untimed n k.shown }
 
 as_runs : (c : ℕ) (notes : List Note) → OfItems c notes → OfRuns c notes
 as_runs c [] k = tt
@@ -56,7 +68,7 @@ runs_joined c [] more p q = q
 runs_joined c (n ∷ some) more p q = (p.0, runs_joined c some more p.1 q)
 
 closing_run : (c : ℕ) (b : Bool) → OfRuns c (note_if b (note.CloseServer c))
-closing_run c true = (record { about = refl; reply = refl; fails = refl; ends = refl; none = refl; goes_on = refl; stays = refl }, tt)
+closing_run c true = (record { about = refl; reply = refl; fails = refl; ends = refl; none = refl; goes_on = refl; stays = refl; timeless = refl }, tt)
 closing_run c false = tt
 
 behind_run : (c : ℕ) (sent : Counts) (took : TakenCounts) (i : Item) → OfRuns c (closed_behind c sent took i)
@@ -74,6 +86,10 @@ pub of_runs : (c : ℕ) (sent : Counts) (took : TakenCounts) (items : List Item)
 of_runs c sent took [] = tt
 of_runs c sent took (i ∷ items) =
     runs_joined c (note_of c i) _ (one_item c i) (runs_joined c (closed_behind c (sent_after i sent) took i) _ (behind_run c (sent_after i sent) took i) (of_runs c (sent_after i sent) took items))
+
+pub timeless_runs : (c : ℕ) (notes : List Note) → OfRuns c notes → list_any is_timed notes ≡ false
+timeless_runs c [] h = refl
+timeless_runs c (n ∷ notes) h = ap (λ b. b || list_any is_timed notes) h.0.timeless ∙ timeless_runs c notes h.1
 
 pub about_runs : (c : ℕ) (notes : List Note) → OfRuns c notes → About c notes
 about_runs c [] h = tt

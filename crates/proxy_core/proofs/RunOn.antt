@@ -7,7 +7,7 @@ use Rattle.std.proofs.lemmas.Grind.{flat_map-append}
 use Rattle.core_events.specs.declared.edges.Edges.{Edges}
 use Rattle.core_events.specs.declared.note.Cause.TheVariants.{Memory}
 use Rattle.core_events.specs.declared.note.Note.{Note}
-use Rattle.core_events.specs.declared.note.Note.TheVariants.{Finish}
+use Rattle.core_events.specs.declared.note.Note.TheVariants.{Finish, Sleep}
 use Rattle.core_events.specs.Edges.{edges_noted}
 use Rattle.conn_trace.specs.Further.{longer, nothing_comes, on_last}
 use Rattle.conn_trace.specs.Gates.{Counts, TakenCounts, no_bytes, sent_after, sent_from}
@@ -34,20 +34,24 @@ use Rattle.conn.specs.declared.ends.Ends.{Ends}
 use Rattle.conn.specs.declared.setup.Setup as given
 use Rattle.conn.specs.declared.turn.ConnTurn.{ConnTurn}
 use Rattle.conn.specs.declared.turn.ConnTurn.TheVariants as turn
-use Rattle.proxy_core.specs.Calls.{calls_of, is_any, queue_behind}
+use Rattle.proxy_core.specs.Calls.{is_any, queue_behind, sleep_note, sleepers_behind, sleepers_of, sleeps}
 use Rattle.proxy_core.specs.Live.{LiveRuns, asks_in, edges_by_conn}
-use Rattle.proxy_core.specs.Moves.{MovesFront, RunsFailed, RunsOn, RunsOut, ran}
-use Rattle.record_model.specs.Past.{Past, ended_in, heard}
+use Rattle.proxy_core.specs.Moves.{MovesFront, RunsFailed, RunsOn, RunsOut, asleep_behind, ran, told_last}
+use Rattle.record_model.specs.Clock.{wakes_at}
+use Rattle.record_model.specs.Past.{Past, ended_in, heard, shared}
 use Rattle.proxy_core.specs.Ready.{ring_behind}
-use Rattle.proxy_core.specs.Represents.{ConnectionContinues, Continues, HoldsQueues, around}
-use Rattle.proxy_core.specs.Scheduler.{State, last_took, servers_left, seen, seen_after, untaken_all}
+use Rattle.proxy_core.specs.Represents.{AgreesAsleep, ConnectionContinues, Continues, HoldsQueues, around}
+use Rattle.proxy_core.specs.Scheduler.{State, last_took, open_calls, servers_left, seen, seen_after, untaken_all}
 use Rattle.record_model.specs.Setup.{setup_of, stand_of}
+use Rattle.proxy_core.specs.declared.call.Asleep.{Asleep}
 use Rattle.run_config.specs.declared.config.Config.{Config}
 use Rattle.conn.proofs.Affording.{affords}
 use Rattle.conn.proofs.Paying.{paid_within}
 use Rattle.proxy_core.proofs.CameOn.{Stood, stream_is, paid_standing, queued_untaken, to_standing}
-use Rattle.proxy_core.proofs.Entries.{asked_behind, calls_behind_self}
-use Rattle.proxy_core.proofs.GroupNotes.{About, AreDue, about_joined, closing_due, due_about, due_failure, due_quiet, ended_closing, ended_resting, resting_due, tells_all}
+use Rattle.proxy_core.proofs.Entries.{asked_behind, open_none, ran_open}
+use Rattle.proxy_core.proofs.GroupNotes.{About, AreDue, about_joined, closing_due, due_about, due_both, due_failure, due_quiet, ended_closing, ended_resting, resting_due, sleep_due, tells_all, whole_notes}
+use Rattle.proxy_core.proofs.EdgeNotes.{edges_joined}
+use Rattle.proxy_core.proofs.Sleepers.{asleep_ran, stays_asleep}
 use Rattle.proxy_core.proofs.Meeting.{around_quiet}
 use Rattle.proxy_core.proofs.Members.{eq_self}
 use Rattle.proxy_core.proofs.Standing.{sent_at}
@@ -77,6 +81,33 @@ told_ends turn.More g took at c e d stops = refl
 told_ends (turn.Asks call) g took at c e d stops = refl
 told_ends turn.NotYet g took at c e d stops = ended_resting g took at c e d ∙ ap (λ (b : Bool). if b then c ∷ [] else []) stops.1.0
 told_ends turn.Over g took at c e d stops = ended_resting g took at c e d ∙ ap (λ (b : Bool). if b then c ∷ [] else []) stops
+
+pub last_due : (t : ConnTurn) (g : Setup) (took : TakenCounts) (at : TraceState) (c : ℕ) (e : Edges) (d moment : ℕ) → AreDue c (told_last t g took at c e d moment)
+last_due t g took at c e d moment = due_both c (told_behind t g took at c e d) (sleep_note t c moment) (told_due t g took at c e d) (sleep_due t c moment)
+
+pub last_ends : (t : ConnTurn) (g : Setup) (took : TakenCounts) (at : TraceState) (c : ℕ) (e : Edges) (d moment : ℕ) → StopsAt g took at t → ended_in (told_last t g took at c e d moment) ≡ (if ends t then c ∷ [] else [])
+last_ends turn.More g took at c e d moment stops = refl
+last_ends (turn.Asks call) g took at c e d moment stops = by_test (sleeps call)
+  where
+    by_test : (b : Bool) → ended_in (if b then Sleep c (wakes_at moment call) ∷ [] else []) ≡ []
+    by_test true = refl
+    by_test false = refl
+last_ends turn.NotYet g took at c e d moment stops = ap ended_in (append-nil (told_behind turn.NotYet g took at c e d)) ∙ told_ends turn.NotYet g took at c e d stops
+last_ends turn.Over g took at c e d moment stops = ap ended_in (append-nil (told_behind turn.Over g took at c e d)) ∙ told_ends turn.Over g took at c e d stops
+
+-- that a call sleeps moves no end
+sleep_edges : (t : ConnTurn) (c moment : ℕ) (e : Edges) → edges_noted (sleep_note t c moment) e ≡ e
+sleep_edges turn.More c moment e = refl
+sleep_edges (turn.Asks call) c moment e = by_test (sleeps call)
+  where
+    by_test : (b : Bool) → edges_noted (if b then Sleep c (wakes_at moment call) ∷ [] else []) e ≡ e
+    by_test true = refl
+    by_test false = refl
+sleep_edges turn.NotYet c moment e = refl
+sleep_edges turn.Over c moment e = refl
+
+pub edges_slept : (t : ConnTurn) (c moment : ℕ) (group told : List Note) → group ≡ told ++ sleep_note t c moment → (e : Edges) → edges_noted group e ≡ edges_noted told e
+edges_slept t c moment group told is e = ap (λ ns. edges_noted ns e) is ∙ edges_joined told (sleep_note t c moment) e ∙ sleep_edges t c moment (edges_noted told e)
 
 -- ---- what was sent
 
@@ -162,8 +193,9 @@ pub record RanConn (C : Config) (past : Past) (s : State) (c : ℕ) (rest : List
   pub next : State
   pub ring : next.ring ≡ ring_behind t c rest
   pub queue : next.queue ≡ queue_behind t c s.queue
-  pub asking : ends t ≡ false → asks_in o ≡ is_any (calls_of c next.queue)
-  pub moves : MovesFront C (heard c past) c rest group s next
+  pub asleep : (held : List Asleep) → AgreesAsleep s.asleep held → AgreesAsleep next.asleep (sleepers_behind t c (shared past).moment held)
+  pub asking : ends t ≡ false → asks_in o ≡ is_any (open_calls c next)
+  pub moves : MovesFront C (heard c past) (shared past).moment c rest group s next
   pub about : About c group
   pub ended : ended_in group ≡ (if ends t then c ∷ [] else [])
   pub setup : ends t ≡ false → setup_of C (hears c (heard c past) Runs group) ≡ setup_of C (heard c past)
@@ -192,15 +224,27 @@ module _ (C : Config) (past : Past) (s : State) (c : ℕ) (rest : List ℕ) wher
   abbrev place : List Item
   place = s.places c
 
-  front_failed : (group : List Note) (t : ConnTurn) (o : Option Conn) (dropped : ℕ) → h.failed ≡ true → dropped ≡ untaken_all h place → group ≡ closing c h.edges dropped → t ≡ turn.Over → RanConn C past s c rest group t o
-  front_failed group t o dropped failed left e f =
+  abbrev moment : ℕ
+  moment = (shared past).moment
+
+  -- one that is over doesn't sleep
+  none_slept : (group mine : List Note) (t : ConnTurn) → t ≡ turn.Over → group ≡ mine ++ sleep_note t c moment → group ≡ mine
+  none_slept group mine t f is = is ∙ ap (λ x. mine ++ sleep_note x c moment) f ∙ append-nil mine
+
+  over_asleep : (t : ConnTurn) → t ≡ turn.Over → (asleep : ℕ → Option Asleep) (held : List Asleep) → AgreesAsleep asleep held → AgreesAsleep asleep (sleepers_behind t c moment held)
+  over_asleep t f asleep held h q = ap (λ x. sleepers_of q (sleepers_behind x c moment held)) f ∙ h q
+
+  front_failed : (group mine : List Note) (t : ConnTurn) (o : Option Conn) (dropped : ℕ) → h.failed ≡ true → dropped ≡ untaken_all h place → mine ≡ closing c h.edges dropped → t ≡ turn.Over → group ≡ mine ++ sleep_note t c moment → RanConn C past s c rest group t o
+  front_failed group mine t o dropped failed left notes f is =
+      let e : group ≡ closing c h.edges dropped = none_slept group mine t f is ∙ notes in
       let next : State = record s { ring = rest } in
-      let M : Bool → Type 0 = λ b. MatchBool b (RunsFailed h c rest group s next) (RunsOn C h c rest group s next ⊎ RunsOut C h c rest group s next) in
+      let M : Bool → Type 0 = λ b. MatchBool b (RunsFailed h c rest group s next) (RunsOn C h moment c rest group s next ⊎ RunsOut C h c rest group s next) in
       let A : List Note → Type 0 = λ x. About c x in
       record {
         next = next;
         ring = ap (λ x. ring_behind x c rest) (sym f);
         queue = ap (λ x. queue_behind x c s.queue) (sym f);
+        asleep = over_asleep t f s.asleep;
         asking = λ x. absurd (over_stays t f x);
         moves = subst M (sym failed) (record { notes = e ∙ ap (closing c h.edges) left; state = refl });
         about = subst A (sym e) (due_about c (closing c h.edges dropped) (closing_due c h.edges dropped));
@@ -210,22 +254,23 @@ module _ (C : Config) (past : Past) (s : State) (c : ℕ) (rest : List ℕ) wher
       }
 
   module _ (k : Stood C (heard c past) (s.places c)) (ran_on : RunStood C c (heard c past) (s.places c)) where
-    front_goes : (group : List Note) (t : ConnTurn) (old new : Conn) → Continues C (seen past s c) old → h.edges ≡ old.ends.edges → calls_of c s.queue ≡ []
-        → (steps : ℕ) → GoesOnWith (setup_of C h) (around h) (stand_of C h place) c old new group t steps → IsWhole t steps (length group) → RanConn C past s c rest group t (Some new)
-    front_goes group t old new z edges none steps w whole =
+    front_goes : (group mine : List Note) (t : ConnTurn) (old new : Conn) → Continues C (seen past s c) old → h.edges ≡ old.ends.edges → open_calls c s ≡ []
+        → (steps : ℕ) → GoesOnWith (setup_of C h) (around h) (stand_of C h place) c old new mine t steps → IsWhole t steps (length mine) → group ≡ mine ++ sleep_note t c moment → RanConn C past s c rest group t (Some new)
+    front_goes group mine t old new z edges none steps w whole is =
         let g = setup_of C h in
         let l = stand_of C h place in
         let all = place ++ w.more in
-        let slices = slices_in t (length group) in
-        let next = ran c (ring_behind t c rest) (queue_behind t c s.queue) w.more slices s in
-        let paid = slices_paid g w.at new t steps (length group) (s.spent c) place w.more whole (w.pays (1991 * s.spent c) (paid_by place) z.paid) in
+        let slices = slices_in t (length mine) in
+        let next = ran c (ring_behind t c rest) (queue_behind t c s.queue) (asleep_behind t c moment (s.asleep c)) w.more slices s in
+        let paid = slices_paid g w.at new t steps (length mine) (s.spent c) place w.more whole (w.pays (1991 * s.spent c) (paid_by place) z.paid) in
         let queues = queues_joined g h place l old.ends z.holds.ends k.within k.linked.waits k.stands w.more w.at new.ends w.holds.ends z.queues w.client_queue w.servers w.to_none w.items.passes.passed in
         let left : queued_in new.ends ≡ untaken_all h all = queued_untaken h all new.ends queues in
         let items = run_notes c l.sent (taken h) w.more in
         let told : Edges → ℕ → List Note = λ e d. told_behind t g (taken h) w.at c (edges_noted items e) d in
-        let behind = told h.edges (untaken_all h all) in
-        let noted : group ≡ items ++ behind = w.items.noted ∙ ap (λ e. items ++ told e (queued_in new.ends)) (sym edges) ∙ ap (λ d. items ++ told h.edges d) left in
-        let due : AreDue c behind = told_due t g (taken h) w.at c (edges_noted items h.edges) (untaken_all h all) in
+        let rested = told h.edges (untaken_all h all) in
+        let behind = rested ++ sleep_note t c moment in
+        let noted : group ≡ items ++ behind = whole_notes t c moment group mine items rested is (w.items.noted ∙ ap (λ e. items ++ told e (queued_in new.ends)) (sym edges) ∙ ap (λ d. items ++ told h.edges d) left) in
+        let due : AreDue c behind = last_due t g (taken h) w.at c (edges_noted items h.edges) (untaken_all h all) moment in
         let ofs = of_runs c l.sent (taken h) w.more in
         let about_all : About c (items ++ behind) = about_joined c items behind (about_runs c items ofs) (due_about c behind due) in
         let h' = hears c h Runs (items ++ behind) in
@@ -233,20 +278,21 @@ module _ (C : Config) (past : Past) (s : State) (c : ℕ) (rest : List ℕ) wher
         let stands = ran_on z.not_failed w.more w.at behind (due_quiet c behind due) w.items.passes in
         let T : Around → Type 0 = λ x. Holds g x w.at new in
         let P : (if nat_eq c c then all else place) ≡ all = ap (λ (b : Bool). if b then all else place) (eq_self c) in
-        let M : Bool → Type 0 = λ b. MatchBool b (RunsFailed h c rest group s next) (RunsOn C h c rest group s next ⊎ RunsOut C h c rest group s next) in
+        let M : Bool → Type 0 = λ b. MatchBool b (RunsFailed h c rest group s next) (RunsOn C h moment c rest group s next ⊎ RunsOut C h c rest group s next) in
         let G : List Note → Type 0 = λ x. Continues C (seen_after past Runs x next c) new in
         let Z : List Item → ℕ → Type 0 = λ p n. Continues C (record (seen_after past Runs (items ++ behind) next c) { place = p; spent = n }) new in
         let N : (if nat_eq c c then s.spent c + slices else s.spent c) ≡ s.spent c + slices = ap (λ (b : Bool). if b then s.spent c + slices else s.spent c) (eq_self c) in
         let A : List Note → Type 0 = λ x. About c x in
-        let I : Edges → ℕ → Type 0 = λ e d. RunsItems g (taken h) e l c w.more w.at group t d in
+        let I : Edges → ℕ → Type 0 = λ e d. RunsItems g (taken h) e l c w.more w.at mine t d in
         record {
           next = next;
           ring = refl;
           queue = refl;
-          asking = λ x. w.asking ∙ asks_behind t ∙ ap is_any (sym (calls_behind_self t c s.queue none));
-          moves = subst M (sym z.not_failed) (inl (record { more = w.more; at = w.at; turn = t; items = subst (I h.edges) left (subst (λ e. I e (queued_in new.ends)) (sym edges) w.items); paid = affords g (around h) w.at new (1991 * (s.spent c + slices)) (paid_by all) w.holds paid; state = refl }));
+          asleep = λ held h. asleep_ran t c moment s.asleep held (open_none c s none).1 h;
+          asking = λ x. w.asking ∙ asks_behind t ∙ ap is_any (sym (ran_open t c moment (ring_behind t c rest) w.more slices s none));
+          moves = subst M (sym z.not_failed) (inl (record { more = w.more; at = w.at; turn = t; told = mine; notes = is; items = subst (I h.edges) left (subst (λ e. I e (queued_in new.ends)) (sym edges) w.items); paid = affords g (around h) w.at new (1991 * (s.spent c + slices)) (paid_by all) w.holds paid; state = refl }));
           about = subst A (sym noted) about_all;
-          ended = ap ended_in noted ∙ ended_runs c items behind ofs ∙ told_ends t g (taken h) w.at c (edges_noted items h.edges) (untaken_all h all) w.items.stops;
+          ended = ap ended_in noted ∙ ended_runs c items behind ofs ∙ last_ends t g (taken h) w.at c (edges_noted items h.edges) (untaken_all h all) moment w.items.stops;
           setup = λ x. refl;
           goes_on = λ x. inl (subst G (sym noted) (subst (λ p. Z p (if nat_eq c c then s.spent c + slices else s.spent c)) (sym P) (subst (Z all) (sym N) (record {
             not_failed = ap (λ b. b || failure_told (notes_about c (items ++ behind))) z.not_failed ∙ ap failure_told (tells_all c (items ++ behind) about_all) ∙ failure_runs c items behind ofs ∙ due_failure c behind due;
@@ -260,27 +306,28 @@ module _ (C : Config) (past : Past) (s : State) (c : ℕ) (rest : List ℕ) wher
           }))));
         }
 
-    front_stops : (group : List Note) (t : ConnTurn) (old : Conn) (o : Option Conn) → Continues C (seen past s c) old → h.edges ≡ old.ends.edges
-        → StopsWithout (setup_of C h) (around h) (stand_of C h place) c old group t → RanConn C past s c rest group t o
-    front_stops group t old o z edges w =
+    front_stops : (group mine : List Note) (t : ConnTurn) (old : Conn) (o : Option Conn) → Continues C (seen past s c) old → h.edges ≡ old.ends.edges
+        → StopsWithout (setup_of C h) (around h) (stand_of C h place) c old mine t → group ≡ mine ++ sleep_note t c moment → RanConn C past s c rest group t o
+    front_stops group mine t old o z edges w is =
         let g = setup_of C h in
         let l = stand_of C h place in
         let all = place ++ w.more in
-        let next = ran c rest s.queue w.more 0 s in
+        let next = ran c rest s.queue (s.asleep c) w.more 0 s in
         let given = queued_in old.ends + (length (client_output w.more) + length (servers_output w.more)) in
         let items = run_notes c l.sent (taken h) w.more in
         let left : given ≡ untaken_all h all = out_untaken g h place l old.ends z.holds.ends k.within k.linked.waits k.stands w.more w.at z.queues w.passes.passed w.to_none in
         let out : Edges → ℕ → List Note = λ e d. out_of_memory c e l.sent (taken h) w.more d in
-        let noted : group ≡ out h.edges (untaken_all h all) = w.noted ∙ ap (λ e. out e given) (sym edges) ∙ ap (out h.edges) left in
+        let noted : group ≡ out h.edges (untaken_all h all) = none_slept group mine t w.over is ∙ w.noted ∙ ap (λ e. out e given) (sym edges) ∙ ap (out h.edges) left in
         let last = closing c (edges_noted items h.edges) (untaken_all h all) in
         let due = closing_due c (edges_noted items h.edges) (untaken_all h all) in
         let ofs = of_runs c l.sent (taken h) w.more in
-        let M : Bool → Type 0 = λ b. MatchBool b (RunsFailed h c rest group s next) (RunsOn C h c rest group s next ⊎ RunsOut C h c rest group s next) in
+        let M : Bool → Type 0 = λ b. MatchBool b (RunsFailed h c rest group s next) (RunsOn C h moment c rest group s next ⊎ RunsOut C h c rest group s next) in
         let A : List Note → Type 0 = λ x. About c x in
         record {
           next = next;
           ring = ap (λ x. ring_behind x c rest) (sym w.over);
           queue = ap (λ x. queue_behind x c s.queue) (sym w.over);
+          asleep = λ held h. over_asleep t w.over next.asleep held (stays_asleep c (s.asleep c) s.asleep held refl h);
           asking = λ x. absurd (over_stays t w.over x);
           moves = subst M (sym z.not_failed) (inr (record { more = w.more; at = w.at; passes = w.passes; no_call = w.no_call; notes = noted; state = refl }));
           about = subst A (sym noted) (about_joined c items (Finish c Memory ∷ last) (about_runs c items ofs) (refl, due_about c last due));
@@ -289,16 +336,16 @@ module _ (C : Config) (past : Past) (s : State) (c : ℕ) (rest : List ℕ) wher
           goes_on = λ x. absurd (over_stays t w.over x);
         }
 
-    pub front_runs : (group : List Note) (t : ConnTurn) (steps : ℕ) (S : given.Setup) (edges : Edges) (o o' : Option Conn) → ConnectionContinues C (seen past s c) o → h.edges ≡ edges_by_conn o edges → calls_of c s.queue ≡ [] → asks_in o ≡ is_any (calls_of c s.queue)
-        → conn.Serves S (setup_of C h) → LiveRuns S c edges o o' group t steps → IsWhole t steps (length group) → RanConn C past s c rest group t o'
-    front_runs group t steps S edges None o' z e none asks serves r whole =
-        front_failed group t o' 0 z.failed (let none = silent_left 1 h.connects [] (λ n le. refl) in let n : untaken_all h [] ≡ 0 = omega (arith, none) in sym (ap (untaken_all h) z.no_items ∙ n)) (r.0 ∙ ap (λ x. closing c x 0) (sym e)) r.1
-    front_runs group t steps S edges (Some old) None z e none asks serves r whole = absurd r
-    front_runs group t steps S edges (Some old) (Some new) (inr z) e none asks serves r whole =
+    pub front_runs : (group mine : List Note) (t : ConnTurn) → group ≡ mine ++ sleep_note t c moment → (steps : ℕ) (S : given.Setup) (edges : Edges) (o o' : Option Conn) → ConnectionContinues C (seen past s c) o → h.edges ≡ edges_by_conn o edges → open_calls c s ≡ [] → asks_in o ≡ is_any (open_calls c s)
+        → conn.Serves S (setup_of C h) → LiveRuns S c edges o o' mine t steps → IsWhole t steps (length mine) → RanConn C past s c rest group t o'
+    front_runs group mine t is steps S edges None o' z e none asks serves r whole =
+        front_failed group mine t o' 0 z.failed (let none = silent_left 1 h.connects [] (λ n le. refl) in let n : untaken_all h [] ≡ 0 = omega (arith, none) in sym (ap (untaken_all h) z.no_items ∙ n)) (r.0 ∙ ap (λ x. closing c x 0) (sym e)) r.1 is
+    front_runs group mine t is steps S edges (Some old) None z e none asks serves r whole = absurd r
+    front_runs group mine t is steps S edges (Some old) (Some new) (inr z) e none asks serves r whole =
         let x = r.failed z.there in
-        front_failed group t (Some new) (queued_in old.ends) z.failed (queued_untaken h place old.ends z.queues) (x.0 ∙ ap (λ y. closing c y (queued_in old.ends)) (sym e)) x.1
-    front_runs group t steps S edges (Some old) (Some new) (inl z) e none asks serves r whole = by_end (r.runs (setup_of C h) (around h) (stand_of C h place) serves z.holds (asks ∙ ap is_any none))
+        front_failed group mine t (Some new) (queued_in old.ends) z.failed (queued_untaken h place old.ends z.queues) (x.0 ∙ ap (λ y. closing c y (queued_in old.ends)) (sym e)) x.1 is
+    front_runs group mine t is steps S edges (Some old) (Some new) (inl z) e none asks serves r whole = by_end (r.runs (setup_of C h) (around h) (stand_of C h place) serves z.holds (asks ∙ ap is_any none))
       where
-        by_end : GoesOnWith (setup_of C h) (around h) (stand_of C h place) c old new group t steps ⊎ StopsWithout (setup_of C h) (around h) (stand_of C h place) c old group t → RanConn C past s c rest group t (Some new)
-        by_end (inl w) = front_goes group t old new z e none steps w whole
-        by_end (inr w) = front_stops group t old (Some new) z e w
+        by_end : GoesOnWith (setup_of C h) (around h) (stand_of C h place) c old new mine t steps ⊎ StopsWithout (setup_of C h) (around h) (stand_of C h place) c old mine t → RanConn C past s c rest group t (Some new)
+        by_end (inl w) = front_goes group mine t old new z e none steps w whole is
+        by_end (inr w) = front_stops group mine t old (Some new) z e w is

@@ -16,11 +16,10 @@ use Rattle.conn_trace.specs.Item.{server_output}
 use Rattle.conn_trace.specs.Setup.{Setup}
 use Rattle.conn_trace.specs.State.{Stream, Absent, Answers as Recorded, Cut, TraceState}
 use Rattle.conn_trace.specs.Trace.{start}
-use Rattle.proxy_core.specs.Calls.{calls_of}
 use Rattle.record_model.specs.History.{entries_in}
 use Rattle.record_model.specs.Past.{Past, ended_in, without_all, shared}
 use Rattle.proxy_core.specs.Ready.{is_in}
-use Rattle.proxy_core.specs.Scheduler.{State, entries, Seen, seen, seen_after}
+use Rattle.proxy_core.specs.Scheduler.{State, entries, Seen, seen, seen_after, open_calls}
 use Rattle.proxy_core.specs.Servers.{took_of, Linked, LateServer}
 use Rattle.record_model.specs.Setup.{begins_at, setup_of}
 use Rattle.proxy_core.specs.Sound.{unseen, is_closed, TookWithin, EndsTold, CallsTold, SoundAt}
@@ -98,5 +97,5 @@ seen_accept past c a failed group old new u e f =
     (ap (λ h. hears c h v group) (ap (λ z. z.heard) u) ∙ ap (hears c nothing_heard v) e ∙ first_heard c a failed)
     (ap (λ g. is_in (without_all (ended_in g) ((shared past).live ++ c ∷ [])) c) e ∙ ap (λ ns. is_in ns c) (first_ended c failed ((shared past).live ++ c ∷ [])) ∙ in_pushed_self c (shared past).live)
     (ap (λ s. entries c s.ring) f ∙ entries_pushed_self c old.ring ∙ ap (λ z. z.ready ++ c ∷ []) u)
-    (ap (λ s. calls_of c s.queue) f ∙ ap (λ z. z.asked) u)
+    (ap (open_calls c) f ∙ ap (λ z. z.asked) u)
     (ap (λ s. s.places c) f ∙ ap (λ z. z.place) u) (ap (λ s. s.spent c) f ∙ ap (λ z. z.spent) u)

@@ -28,14 +28,14 @@ use Rattle.conn_trace.proofs.Stepping.{finishes_once}
 use Rattle.conn_trace.proofs.Taking.{met_more}
 use Rattle.conn.specs.Calls.{unless_finished}
 use Rattle.conn.specs.Settling.{is_drained, is_over, is_given_up, is_there, settling, settling_at, took_all, given_up_at, server_notes}
-use Rattle.proxy_core.specs.Calls.{calls_of, is_any}
+use Rattle.proxy_core.specs.Calls.{is_any}
 use Rattle.record_model.specs.History.{called_in, entries_in}
 use Rattle.proxy_core.specs.Live.{further_in}
 use Rattle.proxy_core.specs.Moves.{came}
 use Rattle.record_model.specs.Past.{Past, heard, ended_in, without_all, shared}
 use Rattle.proxy_core.specs.Ready.{is_in}
 use Rattle.record_model.specs.Refusal.{answers_nothing}
-use Rattle.proxy_core.specs.Scheduler.{State, entries, Seen, seen, seen_after, untaken_all, untaken_of}
+use Rattle.proxy_core.specs.Scheduler.{open_calls, State, entries, Seen, seen, seen_after, untaken_all, untaken_of}
 use Rattle.record_model.specs.Setup.{begins_at, setup_in, setup_of, stand_of}
 use Rattle.proxy_core.specs.Shown.{shows, closes_for_good, ends_it, causes_told, causes_behind}
 use Rattle.proxy_core.specs.Servers.{closed_servers, draining, draining_by, given_up}
@@ -64,9 +64,9 @@ use Rattle.conn_trace.proofs.Streams.{link_same}
 use Rattle.proxy_core.proofs.LateServers.{come_late}
 
 -- Comes
-pub ring_came : (over : Bool) (c : ℕ) (old : State) → entries c (came c over old).ring ≡ (if over then rest_of (entries c old.ring) else woken_of (is_any (calls_of c old.queue)) c (entries c old.ring))
+pub ring_came : (over : Bool) (c : ℕ) (old : State) → entries c (came c over old).ring ≡ (if over then rest_of (entries c old.ring) else woken_of (is_any (open_calls c old)) c (entries c old.ring))
 ring_came true c old = entries_without_self c old.ring
-ring_came false c old = entries_woken_self (is_any (calls_of c old.queue)) c old.ring
+ring_came false c old = entries_woken_self (is_any (open_calls c old)) c old.ring
 
 -- ---- the calls of its items, and its entries
 

@@ -33,7 +33,7 @@ use Rattle.proxy_core.specs.Sound.{Spot, CallsTold, Served}
 use Rattle.run_config.specs.declared.config.Config.{Config}
 use Rattle.proxy_core.proofs.CameAt.{UncutOr, heard_uncut, stands_come, stands_uncut}
 use Rattle.proxy_core.proofs.Closings.{none_ends}
-use Rattle.proxy_core.proofs.Entries.{ready_of, woken_of, entries_ready_self, calls_without_self}
+use Rattle.proxy_core.proofs.Entries.{ready_of, woken_of, entries_ready_self, lacked_open}
 use Rattle.proxy_core.proofs.Finished.{heard_finish}
 use Rattle.proxy_core.proofs.GroupNotes.{About, tells_all, due_quiet, quiet_finish}
 use Rattle.proxy_core.proofs.Hearing.{come_told, come_takes}
@@ -149,7 +149,7 @@ lack_served C past c input old m found =
     let finished : h'.finished ≡ true = t.finished ∙ or_true h.finished in
     let z' = seen_after past v group (lacked c old) c in
     let ready : z'.ready ≡ ready_of c z.ready = entries_ready_self c old.ring in
-    let asked : z'.asked ≡ [] = calls_without_self c old.queue in
+    let asked : z'.asked ≡ [] = lacked_open c old in
     let T : Bool → Type 0 = λ b. Spot b z.live z.ready z.asked g (taken h) l h.edges in
     let S : Bool → Type 0 = λ b. Spot false b z.ready z.asked g (taken h) l h.edges in
     let spot = spot_lacks c z.ready z.asked g (taken h) took l at h.edges h'.edges (subst S m.live (subst T found k.spot)) in

@@ -1,5 +1,5 @@
 -- What holds of every state that a past leads to.
-use Rattle.std.proofs.Common.{◌≡◌, refl, sym, ap, subst, ◌∙◌, ℕ, zero, suc, ◌+◌, ◌-◌, ◌≤◌, ◌<◌, List, [], ◌∷◌, ◌++◌, length, Bool, true, false, ◌⊎◌, inl, inr, Some, None, nat_eq, nat_lt, arith, zero-add, if◌then◌else◌, ◌&&◌, ◌||◌}
+use Rattle.std.proofs.Common.{◌≡◌, refl, sym, ap, subst, ◌∙◌, ℕ, zero, suc, ◌+◌, ◌-◌, ◌≤◌, ◌<◌, List, [], ◌∷◌, ◌++◌, append-nil, length, Bool, true, false, ◌⊎◌, inl, inr, Option, Some, None, nat_eq, nat_lt, arith, zero-add, if◌then◌else◌, ◌&&◌, ◌||◌}
 use Rattle.std.specs.Prelude.{is_none, is_some, not}
 use Rattle.std.specs.Bool.{MatchBool}
 use Rattle.std.specs.List.{IsDistinct}
@@ -8,7 +8,7 @@ use Rattle.px_bytes.specs.declared.addr.Addr.{Addr}
 use Rattle.px_bytes.specs.declared.addr.Side.TheVariants.{Client, Server}
 use Rattle.core_events.specs.declared.note.Cause.TheVariants.{Memory}
 use Rattle.core_events.specs.declared.note.Note.{Note}
-use Rattle.core_events.specs.declared.note.Note.TheVariants.{Finish, HalfClose}
+use Rattle.core_events.specs.declared.note.Note.TheVariants.{Finish, HalfClose, Sleep}
 use Rattle.conn_trace.specs.Costs.{SlicesPaid}
 use Rattle.conn_trace.specs.Gates.{TakenCounts, no_bytes, untaken}
 use Rattle.conn_trace.specs.HeardLaws.{taken_by_items}
@@ -33,11 +33,13 @@ use Rattle.conn_trace.proofs.Hearing.{others_not_heard}
 use Rattle.px_bytes.specs.declared.fault.Reply.{Reply}
 use Rattle.shared_store.specs.Calls.{reply}
 use Rattle.shared_store.specs.Store.{StoreState}
-use Rattle.proxy_core.specs.Calls.{asker, calls_of, queue_behind}
+use Rattle.record_model.specs.Clock.{wakes_at}
+use Rattle.proxy_core.specs.Calls.{asker, queue_behind, sleeps}
 use Rattle.record_model.specs.History.{called_in, entries_in, store_of}
 use Rattle.proxy_core.specs.Live.{entry_note}
-use Rattle.proxy_core.specs.Moves.{Rests, MovesFailed, MovesLacks, MovesOn, MovesCome, MovesRing, MovesFront, MovesBy, Moves, RunsOn, RunsOut, RunsFailed, TurnNotes, MovesQueue, is_drained_at, came, lacked, ran, Leads}
+use Rattle.proxy_core.specs.Moves.{Rests, MovesFailed, MovesLacks, MovesOn, MovesCome, MovesRing, MovesFront, MovesBy, Moves, RunsOn, RunsOut, RunsFailed, TurnNotes, MovesQueue, is_drained_at, asleep_behind, came, lacked, ran, told_last, MovesTick, Leads}
 use Rattle.proxy_core.specs.declared.call.Asked.{Asked}
+use Rattle.proxy_core.specs.declared.call.Asleep.{Asleep}
 use Rattle.core_events.specs.Kinds.{kind_of}
 use Rattle.record_model.specs.Past.{Happened, Past, heard, ended_in, without_all, with_accepted, shared, shared_after}
 use Rattle.proxy_core.specs.Ready.{is_in, ring_behind, without}
@@ -45,23 +47,23 @@ use Rattle.record_model.specs.Refusal.{Row, answers_nothing, by_edges, takes_too
 use Rattle.proxy_core.specs.Refusal.{wants_at, standing_by, known, refused}
 use Rattle.conn.specs.Servers.{run_notes}
 use Rattle.proxy_core.specs.Servers.{closed_servers, took_of}
-use Rattle.conn.specs.RunsItems.{asked_at, ends, Passes, StopsAt, slices_in, told_behind}
+use Rattle.conn.specs.RunsItems.{asked_at, ends, Passes, StopsAt, slices_in}
 use Rattle.conn.specs.Settling.{closing, given_up_at, half_close, is_drained, is_over, is_there, note_if, resting, settling, settling_at, took_all}
 use Rattle.conn_trace.specs.Queries.{half_close_due}
 use Rattle.px_bytes.specs.declared.addr.Side.{Side}
 use Rattle.conn_trace.specs.Item.{calls_in}
 use Rattle.conn.specs.declared.turn.ConnTurn.{ConnTurn}
 use Rattle.conn.specs.declared.turn.ConnTurn.TheVariants as turn
-use Rattle.proxy_core.specs.Scheduler.{State, no_connections, entries, Seen, seen, seen_after, untaken_of, untaken_all}
+use Rattle.proxy_core.specs.Scheduler.{State, no_connections, entries, open_calls, Seen, seen, seen_after, untaken_of, untaken_all}
 use Rattle.record_model.specs.Setup.{setup_in, setup_of, stand_of}
-use Rattle.proxy_core.specs.Sound.{unseen, Spot, Served, SoundAt, Sound}
+use Rattle.proxy_core.specs.Sound.{unseen, Rested, Spot, Served, SoundAt, Sound}
 use Rattle.run_config.specs.declared.config.Config.{Config}
-use Rattle.proxy_core.proofs.Entries.{entries_behind_self, ready_behind, asked_behind, calls_behind_self, calls_front}
+use Rattle.proxy_core.proofs.Entries.{entries_behind_self, ready_behind, asked_behind, open_front, open_with, ran_open, ran_still}
 use Rattle.proxy_core.specs.Others.{about, front}
 use Rattle.proxy_core.proofs.Finished.{heard_finish, stands_orderly, trace_finished}
 use Rattle.proxy_core.proofs.RunOn.{RunStood}
-use Rattle.proxy_core.proofs.Framing.{touches, only_changed, same_seen, each_by}
-use Rattle.proxy_core.proofs.GroupNotes.{About, AreDue, closing_due, due_about, due_choices, due_cut, due_entries, due_failure, due_finish, due_hidden, due_quiet, due_replies, ended_closing, ended_resting, quiet_by, resting_due, settling_due, tells_all, due_asks}
+use Rattle.proxy_core.proofs.Framing.{touches, only_changed, same_seen, each_by, tick_open}
+use Rattle.proxy_core.proofs.GroupNotes.{About, AreDue, closing_due, due_about, due_choices, due_cut, due_entries, due_failure, due_finish, due_hidden, due_quiet, due_replies, ended_closing, ended_resting, quiet_by, resting_due, settling_due, tells_all, due_asks, whole_notes}
 use Rattle.proxy_core.proofs.CameAt.{heard_uncut, stands_come}
 use Rattle.proxy_core.proofs.Closings.{EndsBy, closing_ends, closing_gone, ends_behind, half_state, halved, none_ends, resting_again, resting_closed, resting_edges, resting_ends, resting_gone, resting_opens, server_edges, shut}
 use Rattle.proxy_core.proofs.Meeting.{hears_took}
@@ -177,7 +179,7 @@ unchanged past v group old new q m same live =
     same_seen (seen_after past v group new q) (seen past old q)
     (ap (hears q (heard q past) v) m.0 ∙ same (heard q past))
     (ap (λ g. is_in (without_all (ended_in g) (with_accepted v (shared past).live)) q) m.0 ∙ ap (λ ns. is_in ns q) live)
-    (ap (λ s. entries q s.ring) m.1) (ap (λ s. calls_of q s.queue) m.1) (ap (λ s. s.places q) m.1) (ap (λ s. s.spent q) m.1)
+    (ap (λ s. entries q s.ring) m.1) (ap (open_calls q) m.1) (ap (λ s. s.places q) m.1) (ap (λ s. s.spent q) m.1)
 
 own_rest : (C : Config) (past : Past) (v : EventKind) (group : List Note) (old new : State) (q : ℕ) → Rests group old new → ((h : Heard) → hears q h v [] ≡ h) → with_accepted v (shared past).live ≡ (shared past).live → SoundAt C q (seen past old q) → SoundAt C q (seen_after past v group new q)
 own_rest C past v group old new q m same live s = let P : Seen → Type 0 = λ z. SoundAt C q z in subst P (sym (unchanged past v group old new q m same live)) s
@@ -239,11 +241,13 @@ front_served C past c rest old e s =
     is_served C c z (λ u. let n = sym ready ∙ ap (λ y. y.ready) u in cc) s
 
 -- where the front is put
-spot_ran : (t : ConnTurn) (c d : ℕ) (g : Setup) (took : TakenCounts) (at : TraceState) (e : Edges) → StopsAt g took at t → Spot false (not (ends t)) (ready_behind t c) (asked_behind t) g took at (edges_noted (told_behind t g took at c e d) e)
-spot_ran turn.More c d g took at e k = tt
-spot_ran (turn.Asks call) c d g took at e k = k
-spot_ran turn.NotYet c d g took at e k = record { gives_no_more = k.0; no_cut = k.1.1; not_over = k.1.0; told = λ q n. resting_again g took at c q e d n k.1.0 }
-spot_ran turn.Over c d g took at e k = k
+spot_ran : (t : ConnTurn) (c d moment : ℕ) (g : Setup) (took : TakenCounts) (at : TraceState) (e : Edges) → StopsAt g took at t → Spot false (not (ends t)) (ready_behind t c) (asked_behind t) g took at (edges_noted (told_last t g took at c e d moment) e)
+spot_ran turn.More c d moment g took at e k = tt
+spot_ran (turn.Asks call) c d moment g took at e k = k
+spot_ran turn.NotYet c d moment g took at e k =
+    let S : List Note → Type 0 = λ ns. Rested g took at (edges_noted ns e) in
+    subst S (sym (append-nil (resting g took at c e d))) (record { gives_no_more = k.0; no_cut = k.1.1; not_over = k.1.0; told = λ q n. resting_again g took at c q e d n k.1.0 })
+spot_ran turn.Over c d moment g took at e k = k
 
 -- what is told behind the items
 none_behind : (g : Setup) (took : TakenCounts) (at : TraceState) (c d : ℕ) (e : Edges) → Behind g took at c d e [] false false
@@ -305,11 +309,37 @@ rest_behind g took at c d e over is =
       closed = λ f side q. resting_closed g took at c e e d side q;
     }
 
-stop_behind : (t : ConnTurn) (g : Setup) (took : TakenCounts) (at : TraceState) (c d : ℕ) (e : Edges) → StopsAt g took at t → Behind g took at c d e (told_behind t g took at c e d) false (ends t)
-stop_behind turn.More g took at c d e k = none_behind g took at c d e
-stop_behind (turn.Asks call) g took at c d e k = none_behind g took at c d e
-stop_behind turn.NotYet g took at c d e k = rest_behind g took at c d e false k.1.0
-stop_behind turn.Over g took at c d e k = rest_behind g took at c d e true k
+-- that a call sleeps is told alone
+sleep_behind : (g : Setup) (took : TakenCounts) (at : TraceState) (c d until : ℕ) (e : Edges) → Behind g took at c d e (Sleep c until ∷ []) false false
+sleep_behind g took at c d until e = record {
+  about = (refl, tt);
+  quiet = quiet_by c (Sleep c until ∷ []) (refl, tt) refl refl (λ t. refl);
+  failure = refl;
+  ended = refl;
+  hidden = refl;
+  causes = refl;
+  entries = refl;
+  by = ends_behind c d false (Sleep c until ∷ []) [] refl (none_ends c d);
+  gone = λ o. absurd (let x : false ≡ true = o in cc);
+  asks = λ x. x;
+  server = λ f o. inl (refl, refl);
+  opens = λ o. absurd (let x : false ≡ true = o in cc);
+  closed = λ f side q. inr q;
+}
+
+stop_behind : (t : ConnTurn) (g : Setup) (took : TakenCounts) (at : TraceState) (c d moment : ℕ) (e : Edges) → StopsAt g took at t → Behind g took at c d e (told_last t g took at c e d moment) false (ends t)
+stop_behind turn.More g took at c d moment e k = none_behind g took at c d e
+stop_behind (turn.Asks call) g took at c d moment e k = by_test (sleeps call)
+  where
+    by_test : (b : Bool) → Behind g took at c d e (if b then Sleep c (wakes_at moment call) ∷ [] else []) false false
+    by_test true = sleep_behind g took at c d (wakes_at moment call) e
+    by_test false = none_behind g took at c d e
+stop_behind turn.NotYet g took at c d moment e k =
+    let B : List Note → Type 0 = λ ns. Behind g took at c d e ns false false in
+    subst B (sym (append-nil (resting g took at c e d))) (rest_behind g took at c d e false k.1.0)
+stop_behind turn.Over g took at c d moment e k =
+    let B : List Note → Type 0 = λ ns. Behind g took at c d e ns false true in
+    subst B (sym (append-nil (resting g took at c e d))) (rest_behind g took at c d e true k)
 
 memory_behind : (g : Setup) (took : TakenCounts) (at : TraceState) (c d : ℕ) (e : Edges) → Behind g took at c d e (Finish c Memory ∷ closing c e d) true true
 memory_behind g took at c d e =
@@ -344,20 +374,20 @@ asks_alike (turn.Asks call) = refl
 asks_alike turn.NotYet = refl
 asks_alike turn.Over = refl
 
-run_sound : (C : Config) (past : Past) (c : ℕ) (rest after ready : List ℕ) (queue : List Asked) (called asked : List (List (List ℕ))) (old : State) (more : List Item) (slices : ℕ) (at : TraceState) (behind : List Note) (fails over : Bool)
+run_sound : (C : Config) (past : Past) (c : ℕ) (rest after ready : List ℕ) (queue : List Asked) (asleep : Option Asleep) (called asked : List (List (List ℕ))) (old : State) (more : List Item) (slices : ℕ) (at : TraceState) (behind : List Note) (fails over : Bool)
     → IsDistinct nat_eq (shared past).live → old.ring ≡ c ∷ rest → (heard c past).failed ≡ false → is_some (heard c past).accepted ≡ true → Served C c (seen past old c)
     → Passes (setup_of C (heard c past)) (taken (heard c past)) (stand_of C (heard c past) (old.places c)) more at
     → Behind (setup_of C (heard c past)) (taken (heard c past)) at c (untaken_all (heard c past) (old.places c ++ more)) (edges_noted (run_notes c (stand_of C (heard c past) (old.places c)).sent (taken (heard c past)) more) (heard c past).edges) behind fails over
-    → (entries c rest ≡ [] → entries c after ≡ ready) → (calls_of c old.queue ≡ [] → calls_of c queue ≡ asked) → calls_in more ≡ called → length called ≤ 1 → (fails ≡ false → called ≡ asked)
+    → (entries c rest ≡ [] → entries c after ≡ ready) → (open_calls c old ≡ [] → open_calls c (ran c after queue asleep more slices old) ≡ asked) → calls_in more ≡ called → length called ≤ 1 → (fails ≡ false → called ≡ asked)
     → Spot fails (not over) ready asked (setup_of C (heard c past)) (taken (heard c past)) at (edges_noted behind (edges_noted (run_notes c (stand_of C (heard c past) (old.places c)).sent (taken (heard c past)) more) (heard c past).edges))
     → SlicesPaid (setup_of C (heard c past)) (old.places c ++ more) at (old.spent c + slices)
-    → SoundAt C c (seen_after past Runs (run_notes c (stand_of C (heard c past) (old.places c)).sent (taken (heard c past)) more ++ behind) (ran c after queue more slices old) c)
-run_sound C past c rest after ready queue called asked old more slices at behind fails over distinct e f a v p b put puts all few opens spot pays =
+    → SoundAt C c (seen_after past Runs (run_notes c (stand_of C (heard c past) (old.places c)).sent (taken (heard c past)) more ++ behind) (ran c after queue asleep more slices old) c)
+run_sound C past c rest after ready queue asleep called asked old more slices at behind fails over distinct e f a v p b put puts all few opens spot pays =
     let sent = (stand_of C (heard c past) (old.places c)).sent in
     let group = run_notes c sent (taken (heard c past)) more ++ behind in
-    from_served C c (seen_after past Runs group (ran c after queue more slices old) c)
+    from_served C c (seen_after past Runs group (ran c after queue asleep more slices old) c)
     (still_accepted c (heard c past) Runs group (run_told c (heard c past) group (run_about c sent (taken (heard c past)) more behind b.about)) a)
-    (run_served C past c rest after ready queue called asked old more slices at behind fails over distinct e f v p b put puts all few opens spot pays)
+    (run_served C past c rest after ready queue asleep called asked old more slices at behind fails over distinct e f v p b put puts all few opens spot pays)
 
 failed_sound : (C : Config) (past : Past) (c : ℕ) (rest : List ℕ) (old : State) → IsDistinct nat_eq (shared past).live → old.ring ≡ c ∷ rest → (heard c past).failed ≡ true → is_some (heard c past).accepted ≡ true → Served C c (seen past old c)
     → SoundAt C c (seen_after past Runs (closing c (heard c past).edges (untaken_all (heard c past) (old.places c))) (record old { ring = rest }) c)
@@ -368,7 +398,7 @@ failed_sound C past c rest old d e f a v =
     (still_accepted c h Runs group (run_told c h group (due_about c group (closing_due c h.edges (untaken_all h (old.places c))))) a)
     (failed_served C past c rest old d e f v)
 
-own_run : (C : Config) (past : Past) (c : ℕ) (rest : List ℕ) (group : List Note) (old new : State) → IsDistinct nat_eq (shared past).live → old.ring ≡ c ∷ rest → SoundAt C c (seen past old c) → MovesFront C (heard c past) c rest group old new
+own_run : (C : Config) (past : Past) (c : ℕ) (rest : List ℕ) (group : List Note) (old new : State) → IsDistinct nat_eq (shared past).live → old.ring ≡ c ∷ rest → SoundAt C c (seen past old c) → MovesFront C (heard c past) (shared past).moment c rest group old new
     → SoundAt C c (seen_after past Runs group new c)
 own_run C past c rest group old new d e s m = by_failed (heard c past).failed refl m
   where
@@ -381,7 +411,7 @@ own_run C past c rest group old new d e s m = by_failed (heard c past).failed re
         let R : List Note → Type 0 = λ g. SoundAt C c (seen_after past Runs g after c) in
         subst Q (sym k) (subst R (sym f) t)
 
-    by_failed : (b : Bool) → h.failed ≡ b → MatchBool b (RunsFailed h c rest group old new) (RunsOn C h c rest group old new ⊎ RunsOut C h c rest group old new) → SoundAt C c (seen_after past Runs group new c)
+    by_failed : (b : Bool) → h.failed ≡ b → MatchBool b (RunsFailed h c rest group old new) (RunsOn C h (shared past).moment c rest group old new ⊎ RunsOut C h c rest group old new) → SoundAt C c (seen_after past Runs group new c)
     by_failed true f k =
         let v = front_served C past c rest old e s in
         moved (closing c h.edges (untaken_all h (old.places c))) (record old { ring = rest }) k.notes k.state
@@ -391,10 +421,13 @@ own_run C past c rest group old new d e s m = by_failed (heard c past).failed re
         let left = untaken_all h (old.places c ++ k.more) in
         let notes = run_notes c (stand_of C h (old.places c)).sent (taken h) k.more in
         let e' = edges_noted notes h.edges in
-        let behind = told_behind k.turn (setup_of C h) (taken h) k.at c e' left in
-        moved (notes ++ behind) (ran c (ring_behind k.turn c rest) (queue_behind k.turn c old.queue) k.more (slices_in k.turn (length group)) old) k.items.noted k.state
-        (run_sound C past c rest (ring_behind k.turn c rest) (ready_behind k.turn c) (queue_behind k.turn c old.queue) (asked_at k.turn) (asked_behind k.turn) old k.more (slices_in k.turn (length group)) k.at behind false (ends k.turn) d e f v.0 v.1 k.items.passes
-        (stop_behind k.turn (setup_of C h) (taken h) k.at c left e' k.items.stops) (entries_behind_self k.turn c rest) (calls_behind_self k.turn c old.queue) k.items.calls (few_asked k.turn) (λ x. asks_alike k.turn) (spot_ran k.turn c left (setup_of C h) (taken h) k.at e' k.items.stops) k.paid)
+        let m = (shared past).moment in
+        let behind = told_last k.turn (setup_of C h) (taken h) k.at c e' left m in
+        let asleep = asleep_behind k.turn c m (old.asleep c) in
+        let slices = slices_in k.turn (length k.told) in
+        moved (notes ++ behind) (ran c (ring_behind k.turn c rest) (queue_behind k.turn c old.queue) asleep k.more slices old) (whole_notes k.turn c m group k.told notes _ k.notes k.items.noted) k.state
+        (run_sound C past c rest (ring_behind k.turn c rest) (ready_behind k.turn c) (queue_behind k.turn c old.queue) asleep (asked_at k.turn) (asked_behind k.turn) old k.more slices k.at behind false (ends k.turn) d e f v.0 v.1 k.items.passes
+        (stop_behind k.turn (setup_of C h) (taken h) k.at c left m e' k.items.stops) (entries_behind_self k.turn c rest) (ran_open k.turn c m (ring_behind k.turn c rest) k.more slices old) k.items.calls (few_asked k.turn) (λ x. asks_alike k.turn) (spot_ran k.turn c left m (setup_of C h) (taken h) k.at e' k.items.stops) k.paid)
     by_failed false f (inr k) =
         let v = front_served C past c rest old e s in
         let left = untaken_all h (old.places c ++ k.more) in
@@ -402,8 +435,8 @@ own_run C past c rest group old new d e s m = by_failed (heard c past).failed re
         let e' = edges_noted notes h.edges in
         let kept = more_pays (setup_of C h) (old.places c) k.more (stand_of C h (old.places c)) k.at (taken_by_items (taken h) k.more) (old.spent c) v.1.paid k.passes.passed in
         let unspent : SlicesPaid (setup_of C h) (old.places c ++ k.more) k.at (old.spent c + 0) = omega (arith, kept) in
-        moved (notes ++ Finish c Memory ∷ closing c e' left) (ran c rest old.queue k.more 0 old) k.notes k.state
-        (run_sound C past c rest rest [] old.queue [] [] old k.more 0 k.at (Finish c Memory ∷ closing c e' left) true true d e f v.0 v.1 k.passes (memory_behind (setup_of C h) (taken h) k.at c left e') (λ x. x) (λ x. x) k.no_call (omega arith) (λ x. refl) tt unspent)
+        moved (notes ++ Finish c Memory ∷ closing c e' left) (ran c rest old.queue (old.asleep c) k.more 0 old) k.notes k.state
+        (run_sound C past c rest rest [] old.queue (old.asleep c) [] [] old k.more 0 k.at (Finish c Memory ∷ closing c e' left) true true d e f v.0 v.1 k.passes (memory_behind (setup_of C h) (taken h) k.at c left e') (λ x. x) (λ x. ran_still c rest k.more 0 old ∙ x) k.no_call (omega arith) (λ x. refl) tt unspent)
 
 -- where items and what is told behind them lead
 pub ran_on : (C : Config) (past : Past) (s : State) (c : ℕ) → Served C c (seen past s c) → RunStood C c (heard c past) (s.places c)
@@ -428,7 +461,7 @@ own_turn : (C : Config) (past : Past) (a : Asked) (rest : List Asked) (group : L
 own_turn C past a rest group moment r old new e s notes f =
     let c = a.conn in
     let z = seen past old c in
-    let asked : z.asked ≡ a.call ∷ calls_of c rest = ap (calls_of c) e ∙ calls_front a rest in
+    let asked : z.asked ≡ a.call ∷ open_with c rest (old.asleep c) = open_front a rest old e in
     let v = is_served C c z (λ u. let n = sym asked ∙ ap (λ y. y.asked) u in cc) s in
     let Q : State → Type 0 = λ y. SoundAt C c (seen_after past Turns group y c) in
     subst Q (sym f) (by_notes v.0 v.1 notes)
@@ -478,11 +511,22 @@ not_accepted C past c vs from s k h =
     let r = (none_holds (refusal_rows C (known C past s (Accepts c vs from)) (Accepts c vs from)) h).1.0 in
     is_unseen C c (seen past s c) (k.unheard c (grind (arith, nat_tests))) (k.each c)
 
+-- a Tick changes nothing that is seen of a connection: its call is open, whether it sleeps or waits
+pub seen_tick : (past : Past) (moment : ℕ) (group : List Note) (old new : State) (q : ℕ) → MovesTick moment group old new → seen_after past (Ticks moment) group new q ≡ seen past old q
+seen_tick past moment group old new q m =
+    same_seen (seen_after past (Ticks moment) group new q) (seen past old q)
+    (ap (hears q (heard q past) (Ticks moment)) m.notes ∙ others_not_heard q (heard q past) (Ticks moment) [] refl refl)
+    (ap (λ g. is_in (without_all (ended_in g) (shared past).live) q) m.notes)
+    (ap (λ s. entries q s.ring) m.state) (tick_open moment group old new m q) (ap (λ s. s.places q) m.state) (ap (λ s. s.spent q) m.state)
+
+own_tick : (C : Config) (past : Past) (moment : ℕ) (group : List Note) (old new : State) (q : ℕ) → MovesTick moment group old new → SoundAt C q (seen past old q) → SoundAt C q (seen_after past (Ticks moment) group new q)
+own_tick C past moment group old new q m s = let P : Seen → Type 0 = λ z. SoundAt C q z in subst P (sym (seen_tick past moment group old new q m)) s
+
 -- each event owes its own connection
 own : (C : Config) (past : Past) (v : EventKind) (group : List Note) (old new : State) → Sound C past old → refused C past old v ≡ None → MovesBy C past v group old new → SoundAt C (about v old) (seen_after past v group new (about v old))
 own C past (Accepts c vs from) group old new s h m = own_accept C past c vs from group old new (not_accepted C past c vs from old s h) m.notes m.state
 own C past (Comes c input) group old new s h m = own_input C past c input group old new s.distinct (may_come_at C past old c input (s.each c) h) m
-own C past (Ticks moment) group old new s h m = own_rest C past (Ticks moment) group old new 0 m (λ k. others_not_heard 0 k (Ticks moment) [] refl refl) refl (s.each 0)
+own C past (Ticks moment) group old new s h m = own_tick C past moment group old new 0 m (s.each 0)
 own C past Turns group old new s h m = own_queue C past (store_of C past) (shared past).moment old.queue group old new refl s.each m
 own C past Runs group old new s h m = own_ring C past old.ring group old new s.distinct refl s.each m
 own C past (Marks pool member up) group old new s h m = own_rest C past (Marks pool member up) group old new 0 m (λ k. others_not_heard 0 k (Marks pool member up) [] refl refl) refl (s.each 0)

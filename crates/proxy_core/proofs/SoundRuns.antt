@@ -31,13 +31,13 @@ use Rattle.conn_trace.proofs.Unfolding.{unfolds_on}
 use Rattle.conn.specs.RunsItems.{Passes}
 use Rattle.conn.specs.Servers.{run_notes}
 use Rattle.conn.specs.Settling.{closing, given_up_at, is_given_up, is_over, is_there, server_notes, took_all}
-use Rattle.proxy_core.specs.Calls.{calls_of}
 use Rattle.record_model.specs.History.{entries_in}
+use Rattle.proxy_core.specs.declared.call.Asleep.{Asleep}
 use Rattle.proxy_core.specs.Moves.{ran}
 use Rattle.proxy_core.specs.declared.call.Asked.{Asked}
 use Rattle.record_model.specs.Past.{Past, heard, ended_in, without_all, shared}
 use Rattle.proxy_core.specs.Ready.{is_in}
-use Rattle.proxy_core.specs.Scheduler.{State, entries, seen, seen_after, untaken_all, untaken_of}
+use Rattle.proxy_core.specs.Scheduler.{State, entries, seen, seen_after, untaken_all, untaken_of, open_calls}
 use Rattle.proxy_core.specs.Servers.{Linked, awaits, closed_servers, draining, given_up}
 use Rattle.record_model.specs.Setup.{begins_at, setup_in, setup_of, stand_of}
 use Rattle.proxy_core.specs.Shown.{shows, closes_for_good, causes_told, causes_behind}
@@ -265,15 +265,15 @@ closed_start g l at took more e where_is none true c = by (where_is c)
     by (inl o) = inl (c, o)
     by (inr given) = inr (λ x. (given, none c))
 
-pub run_served : (C : Config) (past : Past) (c : ℕ) (rest after ready : List ℕ) (queue : List Asked) (called asked : List (List (List ℕ))) (old : State) (more : List Item) (slices : ℕ) (at : TraceState) (behind : List Note) (fails over : Bool)
+pub run_served : (C : Config) (past : Past) (c : ℕ) (rest after ready : List ℕ) (queue : List Asked) (asleep : Option Asleep) (called asked : List (List (List ℕ))) (old : State) (more : List Item) (slices : ℕ) (at : TraceState) (behind : List Note) (fails over : Bool)
     → IsDistinct nat_eq (shared past).live → old.ring ≡ c ∷ rest → (heard c past).failed ≡ false → Served C c (seen past old c)
     → Passes (setup_of C (heard c past)) (taken (heard c past)) (stand_of C (heard c past) (old.places c)) more at
     → Behind (setup_of C (heard c past)) (taken (heard c past)) at c (untaken_all (heard c past) (old.places c ++ more)) (edges_noted (run_notes c (stand_of C (heard c past) (old.places c)).sent (taken (heard c past)) more) (heard c past).edges) behind fails over
-    → (entries c rest ≡ [] → entries c after ≡ ready) → (calls_of c old.queue ≡ [] → calls_of c queue ≡ asked) → calls_in more ≡ called → length called ≤ 1 → (fails ≡ false → called ≡ asked)
+    → (entries c rest ≡ [] → entries c after ≡ ready) → (open_calls c old ≡ [] → open_calls c (ran c after queue asleep more slices old) ≡ asked) → calls_in more ≡ called → length called ≤ 1 → (fails ≡ false → called ≡ asked)
     → Spot fails (not over) ready asked (setup_of C (heard c past)) (taken (heard c past)) at (edges_noted behind (edges_noted (run_notes c (stand_of C (heard c past) (old.places c)).sent (taken (heard c past)) more) (heard c past).edges))
     → SlicesPaid (setup_of C (heard c past)) (old.places c ++ more) at (old.spent c + slices)
-    → Served C c (seen_after past Runs (run_notes c (stand_of C (heard c past) (old.places c)).sent (taken (heard c past)) more ++ behind) (ran c after queue more slices old) c)
-run_served C past c rest after ready queue called asked old more slices at behind fails over distinct front_is not_failed k p b put puts all few opens spot pays =
+    → Served C c (seen_after past Runs (run_notes c (stand_of C (heard c past) (old.places c)).sent (taken (heard c past)) more ++ behind) (ran c after queue asleep more slices old) c)
+run_served C past c rest after ready queue asleep called asked old more slices at behind fails over distinct front_is not_failed k p b put puts all few opens spot pays =
     let z = seen past old c in
     let h = z.heard in
     let g = setup_of C h in
@@ -287,7 +287,7 @@ run_served C past c rest after ready queue called asked old more slices at behin
     let about = run_about c l.sent (taken h) more behind b.about in
     let t = run_told c h group about in
     let s = run_stays c h group in
-    let z' = seen_after past Runs group (ran c after queue more slices old) c in
+    let z' = seen_after past Runs group (ran c after queue asleep more slices old) c in
     let place : z'.place ≡ z.place ++ more = ap (λ x. if x then z.place ++ more else z.place) (eq_self c) in
     let front : z.ready ≡ c ∷ entries c rest = ap (entries c) front_is ∙ ap (λ x. if x then c ∷ entries c rest else entries c rest) (eq_self c) in
     let S : List ℕ → Type 0 = λ r. Spot h.failed z.live r z.asked g (taken h) l h.edges in

@@ -16,7 +16,6 @@ use Rattle.conn_trace.specs.State.{Cut, TraceState, ForReply, Waits}
 use Rattle.conn_trace.specs.Tellings.{tells, notes_about, replies_told, choices_told, cut_told, finish_told, failure_told}
 use Rattle.conn_trace.specs.Trace.{next_item, Unfolds}
 use Rattle.conn_trace.proofs.Hearing.{event_stands, finished_stands}
-use Rattle.proxy_core.specs.Calls.{calls_of}
 use Rattle.record_model.specs.History.{called_in, entries_in}
 use Rattle.proxy_core.specs.declared.call.Asked.{Asked}
 use Rattle.record_model.specs.Past.{Past, heard, ended_in, without_all, shared}
@@ -30,7 +29,7 @@ use Rattle.proxy_core.specs.Sound.{is_closed, TookWithin, Spot, CallsTold, Serve
 use Rattle.run_config.specs.declared.config.Config.{Config}
 use Rattle.proxy_core.proofs.CameAt.{UncutOr, heard_uncut}
 use Rattle.proxy_core.proofs.EdgeNotes.{edges_told}
-use Rattle.proxy_core.proofs.Entries.{ready_of, entries_ready_self, calls_front}
+use Rattle.proxy_core.proofs.Entries.{ready_of, entries_ready_self, open_front, open_with}
 use Rattle.proxy_core.proofs.GroupNotes.{About, tells_all}
 use Rattle.proxy_core.proofs.Hearing.{turn_told, turn_stays, turn_further}
 use Rattle.proxy_core.proofs.Licensing.{cut_stays, stays_licensed}
@@ -111,11 +110,11 @@ turned_to a rest old = record old { ring = with_ready old.ring a.conn; queue = r
 
 -- where its call is in front
 pub front_call : (C : Config) (past : Past) (a : Asked) (rest : List Asked) (old : State) → old.queue ≡ a ∷ rest → Served C a.conn (seen past old a.conn)
-    → AtCall (heard a.conn past).failed (seen past old a.conn).live (seen past old a.conn).ready a.call (calls_of a.conn rest) (setup_of C (heard a.conn past)) (stand_of C (heard a.conn past) (old.places a.conn))
+    → AtCall (heard a.conn past).failed (seen past old a.conn).live (seen past old a.conn).ready a.call (open_with a.conn rest (old.asleep a.conn)) (setup_of C (heard a.conn past)) (stand_of C (heard a.conn past) (old.places a.conn))
 front_call C past a rest old e k =
     let z = seen past old a.conn in
     let S : List (List (List ℕ)) → Type 0 = λ x. Spot z.heard.failed z.live z.ready x (setup_of C z.heard) (taken z.heard) (stand_of C z.heard z.place) z.heard.edges in
-    at_call z.heard.failed z.live z.ready a.call (calls_of a.conn rest) (setup_of C z.heard) (taken z.heard) (stand_of C z.heard z.place) z.heard.edges (subst S (ap (calls_of a.conn) e ∙ calls_front a rest) k.spot)
+    at_call z.heard.failed z.live z.ready a.call (open_with a.conn rest (old.asleep a.conn)) (setup_of C z.heard) (taken z.heard) (stand_of C z.heard z.place) z.heard.edges (subst S (open_front a rest old e) k.spot)
 
 pub turn_served : (C : Config) (past : Past) (a : Asked) (rest : List Asked) (old : State) (group : List Note) (fails : Bool) → old.queue ≡ a ∷ rest → Served C a.conn (seen past old a.conn) → Answers a.conn group fails
     → (called_in group ≡ a.call ∷ []) ⊎ ((entries_in group ≡ []) × (fails ≡ true)) → Served C a.conn (seen_after past Turns group (turned_to a rest old) a.conn)
@@ -138,7 +137,7 @@ turn_served C past a rest old group fails e k b entry =
     let failed : h'.failed ≡ fails = t.failed ∙ ap (λ x. x || failure_told (map tells group)) f.found ∙ b.failure in
     let live : z'.live ≡ true = ap (λ x. is_in (without_all x (shared past).live) c) b.ended ∙ f.is_live in
     let ready : z'.ready ≡ c ∷ [] = entries_ready_self c old.ring ∙ ap (ready_of c) f.not_ready in
-    let asked : z.asked ≡ a.call ∷ [] = ap (calls_of c) e ∙ calls_front a rest ∙ ap (λ x. a.call ∷ x) f.one in
+    let asked : z.asked ≡ a.call ∷ [] = open_front a rest old e ∙ ap (λ x. a.call ∷ x) f.one in
     let edges : h'.edges ≡ h.edges = edges_told c h Turns group b.about ∙ b.edges h.edges in
     let K : List Note → Type 0 = λ ns. CallsTold h'.failed z'.asked z.place ns in
     let A : List (List (List ℕ)) → Type 0 = λ x. CallsTold h'.failed x z.place (h.notes ++ group) in

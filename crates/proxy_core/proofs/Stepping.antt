@@ -8,6 +8,7 @@ use Rattle.core_events.specs.declared.note.Note.{Note}
 use Rattle.core_events.specs.declared.event_kind.EventKind.{EventKind}
 use Rattle.core_events.specs.declared.event_kind.EventKind.TheVariants as kind
 use Rattle.conn_trace.specs.Tellings.{tells, finish_told}
+use Rattle.proxy_core.specs.Calls.{sleepers_of}
 use Rattle.proxy_core.specs.Changes.{Changes, ChangesBy}
 use Rattle.proxy_core.specs.Face.{Moved}
 use Rattle.proxy_core.specs.Live.{pending_in, wanted_of}
@@ -99,6 +100,7 @@ start_represents C core k = record {
     store_is = k.store;
     ring = k.ring;
     queue = k.queue;
+    asleep = λ c. ap (sleepers_of c) k.asleep;
     each = λ c. rw k.live refl;
   };
 }

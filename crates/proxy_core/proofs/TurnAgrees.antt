@@ -14,7 +14,7 @@ use Rattle.shared_store.proofs.Living.{live_is_kept}
 use Rattle.shared_store.specs.Calls.{live_reply, reply}
 use Rattle.shared_store.specs.Store.{StoreState}
 use Rattle.record_model.proofs.LiveHistory.{history_is_live}
-use Rattle.proxy_core.specs.Calls.{asker, calls_of, is_any}
+use Rattle.proxy_core.specs.Calls.{asker, is_any, sleepers_of}
 use Rattle.proxy_core.specs.Changes as code
 use Rattle.record_model.specs.History.{store_of}
 use Rattle.proxy_core.specs.Live.{LiveAnswers, asks_in, edges_in}
@@ -36,7 +36,7 @@ use Rattle.proxy_core.proofs.Answering.{one_history}
 use Rattle.proxy_core.proofs.Agreeing.{After, assemble, its, distinct_live, one_changed, is_live_over, serves_still}
 use Rattle.proxy_core.proofs.ComesAgrees.{stood_of}
 use Rattle.proxy_core.proofs.EdgeNotes.{edges_told}
-use Rattle.proxy_core.proofs.Entries.{calls_front}
+use Rattle.proxy_core.proofs.Entries.{open_front, open_with}
 use Rattle.proxy_core.proofs.Places.{number_at, live_there}
 use Rattle.proxy_core.proofs.Resting.{none_turns}
 use Rattle.proxy_core.proofs.Standing.{is_served}
@@ -61,12 +61,12 @@ spot_call true true (n ∷ (m ∷ rest)) call more g took at e k = absurd k
 spot_call true false [] call more g took at e k = absurd k
 spot_call true false (n ∷ rest) call more g took at e k = absurd k
 
-front_call : (C : Config) (past : Past) (a : Asked) (rest : List Asked) (s : State) → s.queue ≡ a ∷ rest → Served C a.conn (seen past s a.conn) → AtCall (heard a.conn past).failed (seen past s a.conn).live (calls_of a.conn rest)
+front_call : (C : Config) (past : Past) (a : Asked) (rest : List Asked) (s : State) → s.queue ≡ a ∷ rest → Served C a.conn (seen past s a.conn) → AtCall (heard a.conn past).failed (seen past s a.conn).live (open_with a.conn rest (s.asleep a.conn))
 front_call C past a rest s e v =
     let z = seen past s a.conn in
-    let asked : z.asked ≡ a.call ∷ calls_of a.conn rest = ap (calls_of a.conn) e ∙ calls_front a rest in
+    let asked : z.asked ≡ a.call ∷ open_with a.conn rest (s.asleep a.conn) = open_front a rest s e in
     let S : List (List (List ℕ)) → Type 0 = λ x. Spot z.heard.failed z.live z.ready x (setup_of C z.heard) (taken z.heard) (stand_of C z.heard z.place) z.heard.edges in
-    spot_call z.heard.failed z.live z.ready a.call (calls_of a.conn rest) (setup_of C z.heard) (taken z.heard) (stand_of C z.heard z.place) z.heard.edges (subst S asked v.spot)
+    spot_call z.heard.failed z.live z.ready a.call (open_with a.conn rest (s.asleep a.conn)) (setup_of C z.heard) (taken z.heard) (stand_of C z.heard z.place) z.heard.edges (subst S asked v.spot)
 
 -- a live one that waits goes on with its trace
 going : (C : Config) (z : Seen) (o : Option Conn) → z.heard.failed ≡ false → ConnectionContinues C z o → (conn : Conn) × (o ≡ Some conn) × Continues C z conn
@@ -86,7 +86,7 @@ turns_at C past s old new a rest group r front_is k =
     let there = live_there c k.at old.live.items k.before k.place k.found in
     let i = its C z (live_at old.live.items c) k.before (r.agrees.each c) there in
     let v = (is_served C c z (λ u. let n : z.live ≡ false = ap (λ y. y.live) u in let m : true ≡ false = sym i.live ∙ n in cc) (r.sound.each c)).1 in
-    let asked : z.asked ≡ a.call ∷ calls_of c rest = ap (calls_of c) front_is ∙ calls_front a rest in
+    let asked : z.asked ≡ a.call ∷ open_with c rest (s.asleep c) = open_front a rest s front_is in
     let call = front_call C past a rest s front_is v in
     let asks : asks_in k.before.conn ≡ true = i.asking ∙ ap is_any asked in
     let go = going C z k.before.conn call.found i.continues in
@@ -116,7 +116,7 @@ turns_at C past s old new a rest group r front_is k =
     let B : List (List (List ℕ)) → Type 0 = λ x. asks_in k.after.conn ≡ is_any x in
     assemble C past s next Turns group old new r moves k.keeps k.last k.moment
     (o.numbers_are ∙ sym (ap (λ x. without_all x (numbers old.live.items)) w.noted.ended))
-    (k.ring ∙ ap (λ x. with_ready x c) r.agrees.ring) k.queue w.store_is
+    (k.ring ∙ ap (λ x. with_ready x c) r.agrees.ring) k.queue (λ q. ap (sleepers_of q) k.asleep ∙ r.agrees.asleep q) w.store_is
     (λ q e. o.others q (ap (λ n. nat_eq n q) (sym at) ∙ e))
     (subst A (sym at) (is_live_over c false old.live.items new.live.items k.after z' C o live (λ e. w.continues) (λ e. still) (λ e. ends_are) (λ e. subst B (sym call.one) w.awake)))
 
@@ -125,7 +125,7 @@ turns C past s old new [] group r e k = none_turns C past s old new group r e k
 turns C past s old new (a ∷ rest) group r e (inr k) = turns_at C past s old new a rest group r e k
 turns C past s old new (a ∷ rest) group r e (inl k) =
     let z = seen past s a.conn in
-    let asked : z.asked ≡ a.call ∷ calls_of a.conn rest = ap (calls_of a.conn) e ∙ calls_front a rest in
+    let asked : z.asked ≡ a.call ∷ open_with a.conn rest (s.asleep a.conn) = open_front a rest s e in
     let v = (is_served C a.conn z (λ u. let n = sym asked ∙ ap (λ y. y.asked) u in cc) (r.sound.each a.conn)).1 in
     let call = front_call C past a rest s e v in
     absurd (not_found C z a.conn old (r.agrees.each a.conn) (ap (option_and_then (λ at. slice_get old.live.items at)) k) call.is_live)

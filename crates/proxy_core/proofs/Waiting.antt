@@ -24,7 +24,7 @@ use Rattle.proxy_core.proofs.Standing.{sent_at}
 use Rattle.conn.proofs.Servers.{last_at}
 use Rattle.conn_trace.specs.Setup.{Setup}
 use Rattle.conn_trace.specs.State.{TraceState}
-use Rattle.conn.specs.declared.ends.End.{End}
+use Rattle.conn.specs.declared.ends.ConnectionEnd.{ConnectionEnd}
 use Rattle.proxy_core.specs.Servers.{made}
 use Rattle.proxy_core.proofs.ServerLeft.{last_is_present}
 use Rattle.std.proofs.lemmas.List.{length-drop}
@@ -105,7 +105,7 @@ queue_same C c z Server (Some conn) v k = by_link conn.ends.link refl
     at : TraceState
     at = stand_of C z.heard z.place
 
-    e : End
+    e : ConnectionEnd
     e = conn.ends.server
 
     h : HoldsEnds (around z.heard) at conn.ends

@@ -1,17 +1,20 @@
 -- What may be asked of a core, by the past and the scheduler's state.
 use Rattle.std.specs.Prelude.{ℕ, List, [], ◌∷◌, length, take, drop, Bool, true, false, Option, Some}
-use Rattle.std.specs.Prelude.{None, ◌&&◌, nat_le, slice_get, option_and_then, if◌then◌else◌}
+use Rattle.std.specs.Prelude.{None, ◌&&◌, min, nat_le, nat_lt, slice_get, option_and_then}
+use Rattle.std.specs.Prelude.{if◌then◌else◌}
 use Rattle.px_bytes.specs.declared.addr.Side.{Side}
 use Rattle.px_bytes.specs.declared.addr.Side.TheVariants.{Client, Server}
 use Rattle.core_events.specs.declared.edges.Edges.{Edges}
 use Rattle.conn_trace.specs.Gates.{no_bytes, sent_from, taken_of}
 use Rattle.conn_trace.specs.Heard.{Heard, taken}
 use Rattle.conn_trace.specs.Item.{Item, client_output, server_output}
+use Rattle.record_model.specs.Clock.{never}
 use Rattle.record_model.specs.Past.{Past, heard, shared}
 use Rattle.proxy_core.specs.Ready.{is_in}
 use Rattle.proxy_core.specs.Refusal.{wants_at}
 use Rattle.proxy_core.specs.Scheduler.{State, seen, pending}
 use Rattle.run_config.specs.declared.config.Config.{Config}
+use Rattle.proxy_core.specs.declared.call.Asleep.{Asleep}
 
 abbrev pub is_none_of : {A : Type 0} → List A → Bool
 is_none_of [] = true
@@ -25,9 +28,27 @@ settled_of s = is_none_of s.ring && is_none_of s.queue
 abbrev pub next_of : State → Option ℕ
 next_of s = slice_get s.ring 0
 
--- the moment at which something is due: no call sleeps yet, and nothing is idle for too long
+-- the moment at which a call wakes, unless it never does
+abbrev pub due_until : ℕ → Option ℕ
+due_until due = if nat_lt due never then Some due else None
+
+abbrev pub due_of : Option Asleep → Option ℕ
+due_of None = None
+due_of (Some a) = due_until a.due
+
+-- the lesser of two moments, where there are two
+abbrev pub lesser : Option ℕ → Option ℕ → Option ℕ
+lesser None n = n
+lesser (Some m) None = Some m
+lesser (Some m) (Some n) = Some (min m n)
+
+abbrev pub least : {A : Type 0} → (A → Option ℕ) → List A → Option ℕ
+least due [] = None
+least due (x ∷ xs) = lesser (due x) (least due xs)
+
+-- the least moment at which a call of a live connection wakes
 abbrev pub next_due_of : Config → Past → State → Option ℕ
-next_due_of C past s = None
+next_due_of C past s = least (λ c. due_of (s.asleep c)) (shared past).live
 
 abbrev pub live_of : Past → ℕ
 live_of past = length (shared past).live

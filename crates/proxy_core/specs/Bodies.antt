@@ -3,7 +3,7 @@ use Rattle.std.specs.Prelude.{ℕ, ◌+◌, List, [], ◌∷◌, map, flat_map, 
 use Rattle.event_order.specs.Event.{every_event}
 use Rattle.event_order.specs.declared.event.EventName.{EventName}
 use Rattle.rule_loader.specs.Handlers.{handlers_at}
-use Rattle.rule_loader.specs.declared.handler.Handler as loaded
+use Rattle.rule_loader.specs.declared.handler.EventHandler as loaded
 use Rattle.rule_loader.specs.declared.rule.Rule.{Rule}
 use Rattle.conn.specs.declared.setup.Place.{Place}
 use Rattle.run_config.specs.declared.config.Virtual.{Virtual}
@@ -13,7 +13,7 @@ abbrev pub place_priority : Place → ℕ
 place_priority p = p.priority
 
 -- bodies of a rule, of which the first has this number
-abbrev pub placed : (rule from : ℕ) → List loaded.Handler → List Place
+abbrev pub placed : (rule from : ℕ) → List loaded.EventHandler → List Place
 placed rule from [] = []
 placed rule from (h ∷ hs) =
     record { rule = rule; number = from; priority = h.priority } ∷ placed rule (from + 1) hs

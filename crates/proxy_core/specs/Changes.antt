@@ -1,5 +1,5 @@
 -- What an event changes in a core, and the notes that come of it.
-use Rattle.std.specs.Prelude.{◌≡◌, ◌⊎◌, ℕ, ◌<◌, ◌≤◌, List, [], ◌∷◌, ◌++◌, length, Bool, true, false}
+use Rattle.std.specs.Prelude.{◌≡◌, ◌⊎◌, ℕ, ◌+◌, ◌<◌, ◌≤◌, List, [], ◌∷◌, ◌++◌, length, Bool, true, false}
 use Rattle.std.specs.Prelude.{Option, Some, None, slice_get, slice_set, remove}
 use Rattle.px_bytes.specs.declared.addr.Addr.{Addr}
 use Rattle.tcl_vars.specs.Scopes.{Level}
@@ -23,7 +23,8 @@ use Rattle.conn.specs.declared.setup.Setup.{Setup}
 use Rattle.conn.specs.declared.turn.ConnTurn.{ConnTurn}
 use Rattle.conn.specs.Stages.{is_asking}
 use Rattle.shared_store.specs.Store.{at_moment, marked}
-use Rattle.proxy_core.specs.Calls.{queue_behind, without_calls, woken}
+use Rattle.proxy_core.specs.Calls.{queue_behind, sleep_note, sleepers_behind, sleeping_on}
+use Rattle.proxy_core.specs.Calls.{without_calls, without_sleepers, woken, woken_calls}
 use Rattle.proxy_core.specs.Live.{KeepsPlace, LiveAnswers, MayCome, LiveComes, LiveRuns, SamePlace}
 use Rattle.proxy_core.specs.Live.{asks_in, edges_in}
 use Rattle.proxy_core.specs.Ready.{place_of, ring_behind, with_ready, without}
@@ -72,21 +73,26 @@ pub record Accepts (old new : Core) (number : ℕ) (vs : List ℕ) (from : Addr)
       } ∷ []
   pub ring : new.live.ring ≡ old.live.ring ++ number ∷ []
   pub queue : new.queue.items ≡ old.queue.items
+  pub asleep : new.queue.asleep ≡ old.queue.asleep
   pub store : new.store ≡ old.store
 
--- The connection at a place goes on, and waits on for a reply or is ready; one that waited and
--- doesn't any more leaves the queue of calls. Or it is over, and gone from the ring too.
+-- The connection at a place goes on, and waits on for a reply or is ready; the call of one that
+-- waited and doesn't any more leaves the queue, or sleeps no longer. Or it is over, and gone from the
+-- ring too.
 pub record Stays (old new : Core) (at : ℕ) (before after : Live) : Type 0 where
   pub live : new.live.items ≡ slice_set old.live.items at after
   pub ring : new.live.ring ≡ woken (asks_in after.conn) after.number old.live.ring
-  pub waits : asks_in after.conn ≡ asks_in before.conn → new.queue.items ≡ old.queue.items
+  pub waits : asks_in after.conn ≡ asks_in before.conn
+      → (new.queue.items ≡ old.queue.items) × (new.queue.asleep ≡ old.queue.asleep)
   pub forgets : asks_in after.conn ≡ false → asks_in before.conn ≡ true
-      → new.queue.items ≡ without_calls after.number old.queue.items
+      → (new.queue.items ≡ without_calls after.number old.queue.items)
+      × (new.queue.asleep ≡ without_sleepers after.number old.queue.asleep)
 
 pub record Goes (old new : Core) (at : ℕ) (before : Live) : Type 0 where
   pub live : new.live.items ≡ remove old.live.items at
   pub ring : new.live.ring ≡ without before.number old.live.ring
   pub queue : new.queue.items ≡ old.queue.items
+  pub asleep : new.queue.asleep ≡ old.queue.asleep
 
 -- This came of it. Where the connection is over then, it is gone. Where it found no memory it goes
 -- on, finished with that cause. Its ends stand where this and its notes put them.
@@ -111,7 +117,7 @@ pub record ComesOf (old new : Core) (number : ℕ) (input : Input) (group : List
 -- The front of the ring runs, and leaves the ring, or goes to its back where there is more to do.
 -- It goes on with its new state, or is over. It stops in the middle only behind so many steps or
 -- notes, and counts 2,000 steps at most. Where it stops at a call that goes to the back of the
--- calls, which are fewer than connections may be.
+-- calls, or sleeps, which is noted behind all else; they are fewer than connections may be.
 pub record RunsFront (old new : Core) (number : ℕ) (rest : List ℕ) (group : List Note)
     (steps : ℕ) : Type 0 where
   pub keeps : KeepsConfig old new
@@ -127,13 +133,17 @@ pub record RunsFront (old new : Core) (number : ℕ) (rest : List ℕ) (group : 
   pub setup : Setup
   pub setup_is : IsSetup old.config old.statics.statics old.places before.vs setup
   pub turn : ConnTurn
-  pub edges : ends turn ≡ false → edges_in after ≡ edges_noted group (edges_in before)
-  pub runs : LiveRuns setup number before.edges before.conn after.conn group turn steps
-  pub whole : IsWhole turn steps (length group)
+  pub told : List Note
+  pub notes : group ≡ told ++ sleep_note turn number old.moment
+  pub edges : ends turn ≡ false → edges_in after ≡ edges_noted told (edges_in before)
+  pub runs : LiveRuns setup number before.edges before.conn after.conn told turn steps
+  pub whole : IsWhole turn steps (length told)
   pub bounded : steps ≤ 2000
   pub ring : new.live.ring ≡ ring_behind turn number rest
-  pub queue : length old.queue.items < old.config.connections
+  pub queue : length old.queue.items + length old.queue.asleep < old.config.connections
       → new.queue.items ≡ queue_behind turn number old.queue.items
+  pub asleep : length old.queue.items + length old.queue.asleep < old.config.connections
+      → new.queue.asleep ≡ sleepers_behind turn number old.moment old.queue.asleep
   pub goes_on : ends turn ≡ false → new.live.items ≡ slice_set old.live.items at after
   pub over : ends turn ≡ true → new.live.items ≡ remove old.live.items at
 
@@ -145,6 +155,7 @@ pub record Idles (old new : Core) (group : List Note) (steps : ℕ) : Type 0 whe
   pub live : new.live.items ≡ old.live.items
   pub ring : new.live.ring ≡ []
   pub queue : new.queue.items ≡ old.queue.items
+  pub asleep : new.queue.asleep ≡ old.queue.asleep
   pub store : new.store ≡ old.store
   pub notes : group ≡ []
   pub no_step : steps ≡ 0
@@ -170,6 +181,7 @@ pub record TurnsAt (old new : Core) (a : Asked) (rest : List Asked) (group : Lis
   pub live : new.live.items ≡ slice_set old.live.items at after
   pub ring : new.live.ring ≡ with_ready old.live.ring a.conn
   pub queue : new.queue.items ≡ rest
+  pub asleep : new.queue.asleep ≡ old.queue.asleep
 
 -- no call waits
 pub record TurnsNone (old new : Core) (group : List Note) : Type 0 where
@@ -179,6 +191,7 @@ pub record TurnsNone (old new : Core) (group : List Note) : Type 0 where
   pub live : new.live.items ≡ old.live.items
   pub ring : new.live.ring ≡ old.live.ring
   pub queue : new.queue.items ≡ []
+  pub asleep : new.queue.asleep ≡ old.queue.asleep
   pub store : new.store ≡ old.store
   pub notes : group ≡ []
 
@@ -186,6 +199,24 @@ abbrev pub TurnsQueue : Core → Core → List Asked → List Note → Type 0
 TurnsQueue old new [] group = TurnsNone old new group
 TurnsQueue old new (a ∷ rest) group =
     (place_of old.live.items a.conn ≡ None) ⊎ TurnsAt old new a rest group
+
+-- It is this moment: the calls whose time has come go to the back of the queue, which has room for
+-- them where the calls are no more than connections may be; all others sleep on, and what has run
+-- out is gone from the store.
+pub record TicksTo (old new : Core) (moment : ℕ) : Type 0 where
+  pub keeps : KeepsConfig old new
+  pub last : new.last ≡ old.last
+  pub moment_is : new.moment ≡ moment
+  pub live : new.live ≡ old.live
+  pub queue : length old.queue.items + length old.queue.asleep ≤ old.config.connections
+      → new.queue.items ≡ old.queue.items ++ woken_calls moment old.queue.asleep
+  pub asleep : new.queue.asleep ≡ sleeping_on moment old.queue.asleep
+  pub store : new.store ≡ at_moment moment old.store
+
+pub record Ticked (old new : Core) (moment : ℕ) (group : List Note) (steps : ℕ) : Type 0 where
+  pub core : TicksTo old new moment
+  pub notes : group ≡ []
+  pub no_step : steps ≡ 0
 
 -- only this changes, without a note
 pub record Becomes (new after : Core) (group : List Note) (steps : ℕ) : Type 0 where
@@ -200,7 +231,7 @@ ChangesBy old new (kind.Accepts number vs from) group steps =
 ChangesBy old new (kind.Comes number input) group steps =
     ComesOf old new number input group × (steps ≡ 0)
 ChangesBy old new (kind.Ticks moment) group steps =
-    Becomes new (record old { moment = moment; store = at_moment moment old.store }) group steps
+    Ticked old new moment group steps
 ChangesBy old new kind.Turns group steps =
     TurnsQueue old new old.queue.items group × (steps ≡ 0)
 ChangesBy old new kind.Runs group steps = RunsRing old new old.live.ring group steps

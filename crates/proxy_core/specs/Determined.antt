@@ -1,14 +1,14 @@
--- Where no Run stops in the middle and memory is found, events and recorded choices leave nothing
--- open: the groups and the states are theirs.
-use Rattle.std.specs.Prelude.{◌≡◌, ℕ, List, [], ◌∷◌, false, None, Some}
+-- Where no Run stops in the middle, memory is found and no Tick wakes two calls, events and recorded
+-- choices leave nothing open: the groups and the states are theirs.
+use Rattle.std.specs.Prelude.{◌≡◌, ℕ, List, [], ◌∷◌, true, false, None, Some, is_some}
 use Rattle.core_events.specs.declared.note.Note.{Note}
 use Rattle.core_events.specs.declared.event_kind.EventKind.{EventKind}
-use Rattle.core_events.specs.declared.event_kind.EventKind.TheVariants.{Runs}
+use Rattle.core_events.specs.declared.event_kind.EventKind.TheVariants.{Runs, Ticks}
 use Rattle.core_events.specs.Kinds.{kind_of}
 use Rattle.conn_trace.specs.Gates.{TakenCounts}
 use Rattle.conn_trace.specs.Tellings.{choices_told, cut_told, failure_told, notes_about}
 use Rattle.proxy_core.specs.Asked.{next_of}
-use Rattle.proxy_core.specs.Moves.{Moves}
+use Rattle.proxy_core.specs.Moves.{Moves, wakes}
 use Rattle.record_model.specs.Past.{Happened, Past}
 use Rattle.proxy_core.specs.Ready.{is_in}
 use Rattle.proxy_core.specs.Refusal.{refused}
@@ -32,10 +32,18 @@ abbrev pub RunsWhole : EventKind → State → State → Type 0
 RunsWhole Runs old new = (c : ℕ) → next_of old ≡ Some c → is_in new.ring c ≡ false
 RunsWhole other old new = Unit {0}
 
+-- a Tick wakes one call at most: which of several comes to the queue first is open
+abbrev pub WakesOne : EventKind → State → Type 0
+WakesOne (Ticks moment) old =
+    (c d : ℕ) → is_some (wakes moment (old.asleep c)) ≡ true
+    → is_some (wakes moment (old.asleep d)) ≡ true → c ≡ d
+WakesOne other old = Unit {0}
+
 pub record MovesWhole (C : Config) (past : Past) (x : Happened) (old new : State) : Type 0 where
   pub moves : Moves C past x old new
   pub found_memory : FoundMemory x.group
   pub runs_whole : RunsWhole (kind_of x.event) old new
+  pub wakes_one : WakesOne (kind_of x.event) old
 
 -- a list of states leads through the past, by such moves alone
 abbrev pub LeadsWhole : Config → Past → State → Type 0

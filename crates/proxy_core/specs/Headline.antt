@@ -1,7 +1,7 @@
 -- The promise: what holds of every connection, for every configuration and every past that leads
 -- to a state of the scheduler.
 use Rattle.std.specs.Prelude.{◌≡◌, ℕ, suc, ◌+◌, ◌≤◌, List, [], ◌∷◌, ◌++◌, length, take, map}
-use Rattle.std.specs.Prelude.{Bool, true, false, Some, is_some}
+use Rattle.std.specs.Prelude.{Bool, true, false, Option, Some, None, is_some}
 use Rattle.std.specs.List.{filter}
 use Rattle.px_bytes.specs.declared.addr.Side.{Side}
 use Rattle.px_bytes.specs.declared.addr.Side.TheVariants.{Client, Server}
@@ -19,6 +19,7 @@ use Rattle.conn_trace.specs.Item.{reasons_in, server_output}
 use Rattle.conn_trace.specs.Laws.{cut_is_taken}
 use Rattle.conn_trace.specs.Tellings.{notes_about, failure_told}
 use Rattle.conn_trace.specs.Trace.{next_item, trace, GivesNoMore}
+use Rattle.record_model.specs.Clock.{EntriesAwake, SleepsTold, clock, is_due}
 use Rattle.record_model.specs.History.{IsHistory, called_in, entries_in, store_of}
 use Rattle.proxy_core.specs.Moves.{Leads}
 use Rattle.record_model.specs.Past.{Past, heard, shared}
@@ -29,6 +30,7 @@ use Rattle.proxy_core.specs.Servers.{took_of}
 use Rattle.proxy_core.specs.Shown.{shows, causes_told, causes_behind}
 use Rattle.record_model.specs.Setup.{setup_of, begins_at, stand_of}
 use Rattle.proxy_core.specs.Sound.{EndsTold}
+use Rattle.proxy_core.specs.declared.call.Asleep.{Asleep}
 use Rattle.run_config.specs.declared.config.Config.{Config}
 use Rattle.shared_store.specs.Laws.{StoreIsLive}
 
@@ -60,10 +62,11 @@ pub record IsWhole (C : Config) (h : Heard) (place : List Item) : Type 0 where
   pub servers_took_all :
       (k : ℕ) → took_of h.connects (suc k) ≡ length (server_output (suc k) place)
 
--- all that the gates let through was passed, and it waits for no answer of the proxy's own
-abbrev pub GaveDeliverable : Config → Heard → List Item → Type 0
-GaveDeliverable C h place =
-    GivesNoMore false (sent_from no_bytes place) (taken h)
+-- all that the gates let through was passed, and it waits for no answer of the proxy's own but that
+-- to a call that sleeps
+abbrev pub GaveDeliverable : Config → (asleep : Bool) → Heard → List Item → Type 0
+GaveDeliverable C asleep h place =
+    GivesNoMore asleep (sent_from no_bytes place) (taken h)
     (next_item (setup_of C h) (stand_of C h place))
 
 -- no cut that is allowed goes on from there; once it has finished none does
@@ -80,20 +83,21 @@ pub record IsSettled (s : State) : Type 0 where
 
 -- Where it is settled, each live connection found memory, gave all that was deliverable, and no cut
 -- is due; where besides nothing is pending, since both sides took all or were reset, its trace is no
--- longer, and if it has finished it isn't live any more. An ended one gave its whole trace, unless
--- it found no memory; where nothing was dropped it is whole.
+-- longer, and if it has finished and no call of it sleeps it isn't live any more. An ended one gave
+-- its whole trace, unless it found no memory; where nothing was dropped it is whole.
 pub record SettledIsComplete (C : Config) (h : Heard) (s : State) (live : Bool)
-    (place : List Item) : Type 0 where
+    (asleep : Option Asleep) (place : List Item) : Type 0 where
   pub settled_found_memory : IsSettled s → live ≡ true → h.failed ≡ false
-  pub settled_gave_deliverable : IsSettled s → live ≡ true → GaveDeliverable C h place
+  pub settled_gave_deliverable : IsSettled s → live ≡ true
+      → GaveDeliverable C (is_some asleep) h place
   pub settled_not_cut : IsSettled s → live ≡ true → NoCutIsDue C h place
   pub drained_gave_whole_trace : IsSettled s → live ≡ true → untaken_of h place Client ≡ 0
       → untaken_of h place Server ≡ 0 → (n : ℕ) → first_items C h (length place + n) ≡ place
-  pub half_close_when_due : IsSettled s → live ≡ true → (side : Side)
+  pub half_close_when_due : IsSettled s → live ≡ true → asleep ≡ None → (side : Side)
       → half_close_due (stand_of C h place) (taken h) side ≡ true
       → (edge_of side h.edges).half ≡ true
-  pub finished_has_ended : IsSettled s → h.finished ≡ true → untaken_of h place Client ≡ 0
-      → untaken_of h place Server ≡ 0 → live ≡ false
+  pub finished_has_ended : IsSettled s → h.finished ≡ true → asleep ≡ None
+      → untaken_of h place Client ≡ 0 → untaken_of h place Server ≡ 0 → live ≡ false
   pub ended_gave_whole_trace : live ≡ false → h.failed ≡ false
       → (n : ℕ) → first_items C h (length place + n) ≡ place
   pub ended_clean_sent_all : live ≡ false → h.failed ≡ false → untaken_all h place ≡ 0
@@ -129,7 +133,7 @@ pub record FinishCauses (C : Config) (c : ℕ) (h : Heard) (live : Bool)
 
 -- The calls of the items that a connection passed are those of its entries in the history, each
 -- once and in their order, and its recorded answers are their replies. Behind them is one call at
--- most that has no entry: it waits for its Turn, unless the connection found no memory.
+-- most that has no entry: it waits for its Turn or sleeps, unless the connection found no memory.
 pub record EntriesAreCalls (h : Heard) (asked : List (List (List ℕ))) (place : List Item)
     : Type 0 where
   pub unanswered : List (List (List ℕ))
@@ -149,26 +153,36 @@ pub record OpenCounts (past : Past) (s : State) (c : ℕ) : Type 0 where
       ≡ length (server_output (made (heard c past).connects) (s.places c))
   pub server_reset : last_reset (heard c past).connects ≡ true → pending past s c Server ≡ 0
 
+-- its call that sleeps isn't due, and until when it sleeps was noted
+abbrev pub SleepersNotDue : Past → ℕ → Option Asleep → Type 0
+SleepersNotDue past c asleep =
+    (a : Asleep) → asleep ≡ Some a
+    → ((clock c past).sleeps ≡ Some a.due) × (is_due (shared past).moment a.due ≡ false)
+
 -- What all is promised of an accepted connection. Each Run that stopped in the middle behind fewer
 -- than 64 notes spent a slice of 1,991 steps: all of them are paid for, by three times the cost of
 -- the bodies that ended and of the one that runs or waits, and two for each body.
 pub record ConnectionPromise (C : Config) (past : Past) (s : State) (c : ℕ)
     (z : Seen) : Type 0 where
   pub sent_is_prefix : SentIsPrefix C z.heard z.place
-  pub settled_is_complete : SettledIsComplete C z.heard s z.live z.place
+  pub settled_is_complete : SettledIsComplete C z.heard s z.live (s.asleep c) z.place
   pub finish_causes : FinishCauses C c z.heard z.live z.place
   pub closes_rightly : ClosesRightly c z
   pub entries_are_calls : EntriesAreCalls z.heard z.asked z.place
+  pub sleepers_not_due : SleepersNotDue past c (s.asleep c)
   pub open_line_counts : OpenCounts past s c
   pub slices_are_paid : SlicesPaid (setup_of C z.heard) z.place (stand_of C z.heard z.place) z.spent
 
 -- what the program's past and state promise: a list of scheduler states leads to this one, the
--- shared answers are one history of a sequential store, which holds live rows and records alone, and
--- each accepted connection's bytes and notes are those of the evaluator
+-- shared answers are one history of a sequential store, which holds live rows and records alone, each
+-- call is answered behind the time for which it sleeps, which its note tells, and each accepted
+-- connection's bytes and notes are those of the evaluator
 pub record OutputMatchesEvaluator (C : Config) (past : Past) (s : State) : Type 0 where
   pub replay_has_scheduler_run : Leads C past s
   pub one_history : IsHistory C past
   pub store_is_live : StoreIsLive (shared past).moment (store_of C past)
+  pub entries_awake : EntriesAwake past
+  pub sleep_notes : SleepsTold C past
   pub each_connection : (c : ℕ) → is_some (heard c past).accepted ≡ true
       → ConnectionPromise C past s c (seen past s c)
 

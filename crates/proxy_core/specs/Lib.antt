@@ -1,6 +1,6 @@
 pub mod Ready
-pub mod Calls
 pub mod CallQueue
+pub mod Calls
 pub mod Live
 pub mod Start
 pub mod Refusals
@@ -10,6 +10,7 @@ pub mod Serving
 pub mod Changes
 pub mod Queries
 pub mod Scheduler
+pub mod Sleeping
 pub mod Servers
 pub mod Shown
 pub mod Refusal

@@ -1,5 +1,5 @@
 -- What a core stands for: a configuration, a past and a state of the scheduler.
-use Rattle.std.specs.Prelude.{◌≡◌, ◌⊎◌, ℕ, ◌+◌, ◌*◌, List, [], length, true, false, Option, Some, None, drop}
+use Rattle.std.specs.Prelude.{◌≡◌, ◌⊎◌, ℕ, ◌+◌, ◌*◌, List, [], ◌∷◌, length, true, false, Option, Some, None, drop}
 use Rattle.conn_trace.specs.Heard.{Heard, taken}
 use Rattle.conn_trace.specs.Costs.{paid_by}
 use Rattle.conn_trace.specs.Item.{Item, client_output, server_output}
@@ -11,7 +11,7 @@ use Rattle.conn.specs.declared.ends.Ends.{Ends}
 use Rattle.conn.specs.declared.stage.Stage.TheVariants.{OutOfMemory}
 use Rattle.proxy_core.specs.Bodies.{all_places}
 use Rattle.shared_store.specs.Store.{StoreState}
-use Rattle.proxy_core.specs.Calls.{is_any}
+use Rattle.proxy_core.specs.Calls.{is_any, sleepers_of}
 use Rattle.record_model.specs.History.{store_of}
 use Rattle.proxy_core.specs.Live.{asks_in, edges_in}
 use Rattle.record_model.specs.Past.{Past, Shared, shared}
@@ -24,6 +24,7 @@ use Rattle.record_model.specs.Setup.{statics_of, setup_of, stand_of}
 use Rattle.proxy_core.specs.Sound.{Sound}
 use Rattle.run_config.specs.declared.config.Config.{Config}
 use Rattle.proxy_core.specs.declared.core_state.Core.{Core}
+use Rattle.proxy_core.specs.declared.call.Asleep.{Asleep}
 use Rattle.proxy_core.specs.declared.live.Live.{Live}
 
 -- what was told of it from outside
@@ -71,7 +72,7 @@ ConnectionContinues C z None = NeverBegan z
 ConnectionContinues C z (Some conn) = Continues C z conn ⊎ Lacks C z conn
 
 -- a live connection goes on, its rules are those of its virtual server, its ends stand where what
--- was heard put them, and it waits for a reply where a call of it waits
+-- was heard put them, and it waits for a reply where a call of it is open
 pub record AgreesLive (C : Config) (z : Seen) (l : Live) : Type 0 where
   pub live : z.live ≡ true
   pub continues : ConnectionContinues C z l.conn
@@ -87,6 +88,14 @@ AgreesAt C z (Some l) = AgreesLive C z l
 abbrev pub shared_of : Core → Shared
 shared_of core = record { last = core.last; moment = core.moment; live = numbers core.live.items }
 
+abbrev pub listed : Option Asleep → List Asleep
+listed None = []
+listed (Some a) = a ∷ []
+
+-- of the calls that sleep those of each connection are the one that the state has
+abbrev pub AgreesAsleep : (ℕ → Option Asleep) → List Asleep → Type 0
+AgreesAsleep asleep held = (c : ℕ) → sleepers_of c held ≡ listed (asleep c)
+
 -- the core's fields are those of the past and the state, connection by connection
 pub record AgreesBy (C : Config) (all : Shared) (store : StoreState) (each_seen : ℕ → Seen)
     (s : State) (core : Core) : Type 0 where
@@ -97,6 +106,7 @@ pub record AgreesBy (C : Config) (all : Shared) (store : StoreState) (each_seen 
   pub store_is : core.store ≡ store
   pub ring : core.live.ring ≡ s.ring
   pub queue : core.queue.items ≡ s.queue
+  pub asleep : AgreesAsleep s.asleep core.queue.asleep
   pub each : (c : ℕ) → AgreesAt C (each_seen c) (live_at core.live.items c)
 
 abbrev pub Agrees : Config → Past → State → Core → Type 0

@@ -1,6 +1,7 @@
--- Where the scheduler stands: which connections are ready to run, which shared calls wait, and how
--- far each connection came in its trace; and all of it that concerns one connection.
-use Rattle.std.specs.Prelude.{ℕ, suc, ◌+◌, ◌-◌, length, List, [], ◌∷◌, Bool, Option, Some, None, nat_eq}
+-- Where the scheduler stands: which connections are ready to run, which shared calls wait, which
+-- sleep, and how far each connection came in its trace; and all of it that concerns one connection.
+use Rattle.std.specs.Prelude.{ℕ, suc, ◌+◌, ◌-◌, length, List, [], ◌∷◌, ◌++◌, Bool, Option, Some}
+use Rattle.std.specs.Prelude.{None, nat_eq}
 use Rattle.std.specs.Prelude.{if◌then◌else◌}
 use Rattle.std.specs.List.{filter}
 use Rattle.px_bytes.specs.declared.addr.Side.{Side}
@@ -13,18 +14,25 @@ use Rattle.proxy_core.specs.Calls.{calls_of}
 use Rattle.record_model.specs.Past.{Past, heard, shared, shared_after}
 use Rattle.proxy_core.specs.Ready.{is_in}
 use Rattle.proxy_core.specs.declared.call.Asked.{Asked}
+use Rattle.proxy_core.specs.declared.call.Asleep.{Asleep}
 
--- The ready queue and the queue of shared calls, the next in front; the place of each connection: the
--- items of its trace that it passed; and how many slices it spent: Runs that stopped in the middle of
--- a body behind fewer than 64 notes.
+-- The ready queue and the queue of shared calls, the next in front; of each connection its call that
+-- sleeps; its place: the items of its trace that it passed; and how many slices it spent: Runs that
+-- stopped in the middle of a body behind fewer than 64 notes.
 pub record State : Type 0 where
   pub ring : List ℕ
   pub queue : List Asked
+  pub asleep : ℕ → Option Asleep
   pub places : ℕ → List Item
   pub spent : ℕ → ℕ
 
 abbrev pub no_connections : State
-no_connections = record { ring = []; queue = []; places = λ c. []; spent = λ c. 0 }
+no_connections =
+    record { ring = []; queue = []; asleep = λ c. None; places = λ c. []; spent = λ c. 0 }
+
+-- the calls that sleep, with another one of connection c, or none
+abbrev pub with_asleep : ℕ → Option Asleep → (ℕ → Option Asleep) → ℕ → Option Asleep
+with_asleep c one asleep q = if nat_eq c q then one else asleep q
 
 -- the places, with another one of connection c
 abbrev pub with_place : ℕ → List Item → (ℕ → List Item) → ℕ → List Item
@@ -34,12 +42,21 @@ with_place c place places q = if nat_eq c q then place else places q
 abbrev pub with_spent : ℕ → ℕ → (ℕ → ℕ) → ℕ → ℕ
 with_spent c slices spent q = if nat_eq c q then slices else spent q
 
+-- the call that sleeps
+abbrev pub called_by : Option Asleep → List (List (List ℕ))
+called_by None = []
+called_by (Some a) = a.call ∷ []
+
+-- the open calls of connection c: those that wait for their Turn, and the one that sleeps
+abbrev pub open_calls : ℕ → State → List (List (List ℕ))
+open_calls c s = calls_of c s.queue ++ called_by (s.asleep c)
+
 -- the entries of connection c
 abbrev pub entries : ℕ → List ℕ → List ℕ
 entries c ring = filter (nat_eq c) ring
 
 -- all that concerns one connection: what was heard, whether it is live, its entries in the ready
--- queue, its calls that wait, its place, and its spent slices
+-- queue, its open calls, its place, and its spent slices
 pub record Seen : Type 0 where
   pub heard : Heard
   pub live : Bool
@@ -53,7 +70,7 @@ see h live s c = record {
   heard = h;
   live = is_in live c;
   ready = entries c s.ring;
-  asked = calls_of c s.queue;
+  asked = open_calls c s;
   place = s.places c;
   spent = s.spent c;
 }

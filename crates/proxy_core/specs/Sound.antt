@@ -76,8 +76,8 @@ pub record Rested (g : Setup) (took : TakenCounts) (at : TraceState) (e : Edges)
   pub not_over : is_drained g took at ≡ false
   pub told : (c dropped : ℕ) → resting g took at c e dropped ≡ []
 
--- By whether it found no memory, whether it is live, its entries in the ready queue and its calls
--- that wait: it ended, its trace over and all of it taken, or its sides reset; or it rests; or it
+-- By whether it found no memory, whether it is live, its entries in the ready queue and its open
+-- calls: it ended, its trace over and all of it taken, or its sides reset; or it rests; or it
 -- waits for the reply to its one call; or it is ready, once. One that found no memory is ready
 -- until it ends.
 abbrev pub Spot : (failed live : Bool) → (ready : List ℕ) → (asked : List (List (List ℕ)))
@@ -90,7 +90,7 @@ Spot true false [] [] g took at e = Unit {0}
 Spot failed live ready asked g took at e = ⊥
 
 -- The calls of these items are those of its entries in the history, in their order, and then the
--- one that has no entry, if there is one: it waits, or found no memory.
+-- one that has no entry, if there is one: it is open, or found no memory.
 pub record CallsTold (failed : Bool) (asked : List (List (List ℕ))) (place : List Item)
     (notes : List Note) : Type 0 where
   pub unanswered : List (List (List ℕ))

@@ -18,6 +18,7 @@ pub record IsStart (C : Config) (core : Core) : Type 0 where
   pub live : core.live.items ≡ []
   pub ring : core.live.ring ≡ []
   pub queue : core.queue.items ≡ []
+  pub asleep : core.queue.asleep ≡ []
   pub store : core.store ≡ new_store C.pools (times_of C) C.rows
 
 -- what the rules give: where bodies stand, what RULE_INIT left, and the notes of what it logged
@@ -26,12 +27,13 @@ pub record IsStartRules (C : Config) (ruled : StartRules) : Type 0 where
   pub statics : ruled.vars.statics ≡ statics_of C
   pub notes : ruled.notes.items ≡ init_notes C
 
--- nothing is live and no call waits, with room for all that may; and a store without rows and records
+-- nothing is live and no call waits or sleeps, with room for all that may; and a store without rows and records
 pub record IsStartRoom (C : Config) (room : StartRoom) : Type 0 where
   pub live : room.live.items ≡ []
   pub numbers : room.live.numbers ≡ []
   pub ring : room.live.ring ≡ []
   pub queue : room.queue.items ≡ []
+  pub asleep : room.queue.asleep ≡ []
   pub live_room : C.connections ≤ room.live.room
   pub queue_room : C.connections ≤ room.queue.room
   pub store : room.store ≡ new_store C.pools (times_of C) C.rows

@@ -7,13 +7,13 @@ ghost use Rattle.proxy_core.specs.Face.{Always, Moved, Stands, always_taken, cor
 ghost use Rattle.proxy_core.specs.Refusal.{refused};
 
 use crate::core_state::Core;
-use core_events::{EdgeState, Event, Notes};
+use core_events::{EdgeState, Event, EventCore, Notes};
 use frame_machine::Stepper;
 use px_bytes::{Addr, Side, Steps};
 use std::marker::Brand;
 use std::sync::ledger::{Blank, Ledger};
 
-impl core_events::Core for Core {
+impl EventCore for Core {
     ghost face = { core_face };
 
     fn step(&mut self, event: Event, notes: &mut Notes) -> bool {

@@ -10,7 +10,7 @@ ghost use Rattle.core_events.specs.declared.input.Input.TheVariants.{Takes};
 ghost use Rattle.conn_trace.specs.Heard.{edges_met};
 ghost use Rattle.conn.specs.Stages.{has_finished};
 ghost use Rattle.conn.specs.Runs.{IsWhole};
-ghost use Rattle.conn.specs.RunsItems.{ends};
+ghost use Rattle.conn.specs.RunsItems.{asks, ends};
 ghost use Rattle.conn.specs.Settling.{closing};
 ghost use Rattle.proxy_core.specs.Refusal.{input_refusal};
 ghost use Rattle.proxy_core.specs.Live.{ConnHears, ConnMay, KeepsPlace, LiveComes, LiveRuns};
@@ -274,6 +274,8 @@ impl Live {
             IsWhole result (steps.new - steps.old) given }
         ensures bounded { steps.new ≤ steps.old + 2000 }
         ensures few_notes { length notes.new.items ≤ length notes.old.items + 68 }
+        ensures few_asked { asks result ≡ true
+            → (1 ≤ notes.new.spare) × (length notes.new.items ≤ length notes.old.items + 67) }
     {
         match &mut self.conn {
             Some(conn) => conn.run::<S, L>(alloc, setup, self.number, steps, notes),

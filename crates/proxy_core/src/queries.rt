@@ -34,12 +34,13 @@ impl Core {
         self.live.next_ready()
     }
 
-    /// The least moment above the present one at which something is due. Nothing is yet.
+    /// The least moment above the present one at which something is due: a call wakes. None where
+    /// none does.
     pub fn next_due(&self) -> Option<u64>
         ensures { (C : Config) (past : Past) (s : State) → Represents C past s self.now
             → result ≡ next_due_of C past s }
     {
-        None
+        self.queue.next_due()
     }
 
     /// The present moment.

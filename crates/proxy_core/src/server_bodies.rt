@@ -10,7 +10,7 @@ ghost use Rattle.record_model.specs.Order.{by_priority, put};
 use conn::{Place, Places};
 use event_order::EventName;
 use px_bytes::{M, Seq};
-use rule_loader::{Handler, Rule};
+use rule_loader::{EventHandler, Rule};
 use run_config::Virtual;
 use std::alloc::Global;
 
@@ -68,7 +68,7 @@ fn add_rule(all: &mut Places, rules: &[Rule], number: usize, event: EventName) -
     }
 }
 
-fn add_bodies(all: &mut Places, rule: usize, handlers: &[Handler]) -> M<()>
+fn add_bodies(all: &mut Places, rule: usize, handlers: &[EventHandler]) -> M<()>
     ensures { OnOk result (all.new ≡ all.old ++ placed rule 0 handlers.now) }
 {
     for (number, handler) in handlers.iter().enumerate() {

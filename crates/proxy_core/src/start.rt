@@ -159,6 +159,7 @@ fn tables(alloc: Global, room: usize) -> M<(Table<Live>, CallQueue)>
     ensures ring { IfOk result (λ made. made.0.ring ≡ []) }
     ensures room { IfOk result (λ made. made.0.room ≡ room) }
     ensures queue { IfOk result (λ made. made.1.items ≡ []) }
+    ensures asleep { IfOk result (λ made. made.1.asleep ≡ []) }
     ensures queue_room { IfOk result (λ made. room ≤ made.1.room) }
 {
     let live = Table::with_capacity(alloc, room)?;

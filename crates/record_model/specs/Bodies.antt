@@ -4,7 +4,7 @@ use Rattle.tcl_trees.specs.Procedures.{procs_view}
 use Rattle.tcl_trees.specs.TreeView.{node_view}
 use Rattle.event_order.specs.declared.event.EventName.{EventName}
 use Rattle.rule_loader.specs.Handlers.{handlers_at}
-use Rattle.rule_loader.specs.declared.handler.Handler as loaded
+use Rattle.rule_loader.specs.declared.handler.EventHandler as loaded
 use Rattle.rule_loader.specs.declared.rule.Rule.{Rule}
 use Rattle.conn_trace.specs.Setup.{Handler}
 use Rattle.record_model.specs.Order.{by_priority}
@@ -14,7 +14,7 @@ pub record Body : Type 0 where
   pub priority : ℕ
   pub handler : Handler
 
-abbrev pub body_view : Rule → loaded.Handler → Body
+abbrev pub body_view : Rule → loaded.EventHandler → Body
 body_view r h = record {
   priority = h.priority;
   handler = record { rule = r.name; procedures = procs_view r.procs; body = node_view h.body };

@@ -1,12 +1,14 @@
--- What holds of the bodies that run, and of the static variables.
-use Rattle.std.specs.Prelude.{◌≡◌, ℕ, List, flat_map}
+-- What holds of the bodies that run, of the static variables, and of the session table.
+use Rattle.std.specs.Prelude.{◌≡◌, ◌≤◌, ℕ, List, length, flat_map}
 use Rattle.std.specs.List.Sorted.{IsSortedBy, IsPermutation, IsStableBy}
 use Rattle.event_order.specs.declared.event.EventName.{EventName}
 use Rattle.rule_loader.specs.declared.rule.Rule.{Rule}
 use Rattle.conn_trace.specs.Heard.{Heard}
 use Rattle.record_model.specs.Bodies.{Body, bodies_of, rule_bodies}
+use Rattle.record_model.specs.History.{store_of}
 use Rattle.record_model.specs.Init.{init}
 use Rattle.record_model.specs.Order.{runs_before}
+use Rattle.record_model.specs.Past.{Past}
 use Rattle.record_model.specs.Setup.{setup_of}
 use Rattle.run_config.specs.declared.config.Config.{Config}
 
@@ -28,3 +30,7 @@ BodiesRunInOrder = (rules : List Rule) (numbers : List ℕ) (e : EventName) → 
 -- whatever is heard of a connection, its rules read the static variables that RULE_INIT left
 abbrev pub StaticsStay : Type 0
 StaticsStay = (C : Config) (h : Heard) → (setup_of C h).statics ≡ (init C).vars.statics
+
+-- The session table behind a past never has more rows than the configuration's `rows`, whatever was called.
+abbrev pub RowsAreFew : Type 0
+RowsAreFew = (C : Config) (past : Past) → length (store_of C past).table.rows ≤ C.rows

@@ -4,5 +4,6 @@ pub mod Order
 pub mod Bodies
 pub mod Init
 pub mod Setup
+pub mod Clock
 pub mod Refusal
 pub mod Laws

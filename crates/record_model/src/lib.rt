@@ -4,5 +4,5 @@
 mod laws;
 mod left;
 
-pub use laws::{bodies_run_in_order, history_is_live, statics_stay};
+pub use laws::{bodies_run_in_order, history_is_live, rows_are_few, statics_stay};
 pub use left::Left;

@@ -4,7 +4,7 @@ use Rattle.std.specs.Prelude.{ℕ, List, [], ◌∷◌, map, nat_le, if◌then�
 use Rattle.std.specs.List.{filter}
 use Rattle.event_order.specs.declared.event.EventName.{EventName}
 use Rattle.rule_loader.specs.Events.{event_place, is_event}
-use Rattle.rule_loader.specs.declared.handler.Handler.{Handler}
+use Rattle.rule_loader.specs.declared.handler.EventHandler.{EventHandler}
 use Rattle.tcl_trees.specs.Tree.{Tree}
 use Rattle.tcl_trees.specs.TreeView.{node_view}
 
@@ -19,7 +19,7 @@ pub record Handled : Type 0 where
   pub priority : ℕ
   pub body : Tree
 
-abbrev pub handler_view : Handler → Handled
+abbrev pub handler_view : EventHandler → Handled
 handler_view h = record { priority = h.priority; body = node_view h.body }
 
 abbrev pub without_event : Handling → Handled
@@ -30,5 +30,5 @@ abbrev pub handled_at : EventName → List Handling → List Handled
 handled_at event hs = map without_event (filter (λ h. is_event h.event event) hs)
 
 -- the lists of all events, and the one of an event
-abbrev pub handlers_at : EventName → List (List Handler) → List Handler
+abbrev pub handlers_at : EventName → List (List EventHandler) → List EventHandler
 handlers_at event lists = slice_index_or lists (event_place event) []

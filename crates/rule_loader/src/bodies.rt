@@ -5,7 +5,7 @@ ghost use Rattle.event_order.specs.declared.event.EventName.{EventName};
 ghost use Rattle.rule_loader.specs.Events.{event_place, is_event};
 ghost use Rattle.rule_loader.specs.Handlers.{handlers_at};
 
-use crate::handler::{Handler, Handlers};
+use crate::handler::{EventHandler, Handlers};
 use event_order::EventName;
 use px_bytes::M;
 use std::alloc::Global;
@@ -24,9 +24,9 @@ impl Model for Bodies {
     ghost use Rattle.std.specs.Coded.{codes};
     ghost use Rattle.std.specs.Prelude.{◌≡◌, List, length};
     ghost use Rattle.tcl_trees.specs.contracts.node.Node as node;
-    ghost use Rattle.rule_loader.specs.declared.handler.Handler.{Handler};
+    ghost use Rattle.rule_loader.specs.declared.handler.EventHandler.{EventHandler};
 
-    ghost Value = { List (List Handler) };
+    ghost Value = { List (List EventHandler) };
 
     ghost coded = { Prim.hlevel (codes, node.the_row.coded) };
 
@@ -77,7 +77,7 @@ impl Bodies {
     }
 
     /// Adds a handler of an event at the end.
-    pub(crate) fn push(&mut self, event: EventName, handler: Handler) -> M<()>
+    pub(crate) fn push(&mut self, event: EventName, handler: EventHandler) -> M<()>
         ensures { OnOk result ((other : EventName) → handlers_at other self.new
             ≡ handlers_at other self.old ++ (if is_event event other then handler ∷ [] else [])) }
     {

@@ -17,7 +17,7 @@ mod told;
 mod words;
 
 pub use bodies::Bodies;
-pub use handler::{Handler, Handlers};
+pub use handler::{EventHandler, Handlers};
 pub use laws::{handlers_run_in_order, least_is_told};
 pub use load_fault::{LoadFault, LoadKind, RuleFault};
 pub use loader::load_rule;

@@ -15,7 +15,7 @@ ghost use Rattle.tcl_words.specs.View.{command_view, script_view};
 
 use crate::bodies::Bodies;
 use crate::forms::{Definition, When, proc_form, when_form};
-use crate::handler::Handler;
+use crate::handler::EventHandler;
 use crate::load_fault::{LoadFault, LoadKind};
 use crate::name_set::NameSet;
 use crate::rule::Rule;
@@ -23,7 +23,7 @@ use crate::told::Told;
 use px_bytes::{M, Text};
 use std::alloc::Global;
 use tcl_trees::{Flaw, Proc, Procs};
-use tcl_words::{Command, Fault, LIMIT, Progress, Script};
+use tcl_words::{Fault, LIMIT, Progress, Script, ScriptCommand};
 
 // What was loaded so far.
 #[derive(Drop)]
@@ -86,7 +86,7 @@ impl Loader {
             drop(body);
             return Ok(());
         };
-        self.bodies.push(event, Handler { priority, body })
+        self.bodies.push(event, EventHandler { priority, body })
     }
 
     // Loads a procedure.
@@ -112,7 +112,7 @@ impl Loader {
     }
 
     // Loads a command.
-    fn command(&mut self, alloc: Global, command: &Command) -> M<()>
+    fn command(&mut self, alloc: Global, command: &ScriptCommand) -> M<()>
         requires { AreNamesOf (procs_view self.old.procs) self.old.names }
         ensures told { OnOk result (self.new.told ≡ after_faults
             (command_faults (procs_view self.old.procs) (command_view command.now))
@@ -138,7 +138,7 @@ impl Loader {
 }
 
 // What commands load, where so much is told before.
-fn loaded(alloc: Global, commands: &[Command], told: Told) -> M<Loader>
+fn loaded(alloc: Global, commands: &[ScriptCommand], told: Told) -> M<Loader>
     ensures { IfOk result (Holds told (map command_view commands.now)) }
 {
     let mut loader = Loader {

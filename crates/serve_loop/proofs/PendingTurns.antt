@@ -7,7 +7,7 @@ use Rattle.core_events.specs.Face.{Face}
 use Rattle.serve_loop.specs.Part.{Ready, stand}
 use Rattle.serve_loop.specs.Pending.{AllAmong, PendingOn, SendsInRuns}
 use Rattle.serve_loop.specs.Server.{Round, Rounds, AsksPending, AsksInTurns, Running, Turns, TurnsAsk}
-use Rattle.serve_loop.specs.Turn.{Ticks, WaitsFor, TicksAndWaits, ListenerAt, LinkAt, due_now, listed_links, listed_slots}
+use Rattle.serve_loop.specs.Turn.{Ticks, WaitsFor, WaitsAndTicks, ListenerAt, LinkAt, due_now, listed_links, listed_slots}
 use Rattle.serve_loop.specs.Often.{Each}
 use Rattle.serve_loop.specs.Walk.{Around, Step}
 use Rattle.serve_loop.proofs.Along.{Covers, each_along, link_along, listener_along, not_along, then_along}
@@ -32,10 +32,10 @@ module _ {C : Type 0} (face : Face C) (laws : SendsInRuns face) where
   all_quiet conns = each_along face conns (λ call. Unit {0}) (Quiet face laws) (quiet_along face laws conns)
 
   -- a turn's parts up to its pairs
-  before_quiet : (conns now : ℕ) (slots links : List ℕ) (until : ℕ) (listed : List ReadyAt) → Covers (TicksAndWaits face conns now slots links until listed) (Quiet face laws)
+  before_quiet : (conns now : ℕ) (slots links : List ℕ) (until : ℕ) (listed : List ReadyAt) → Covers (WaitsAndTicks face conns now slots links until listed) (Quiet face laws)
   before_quiet conns now slots links until listed =
-      then_along face conns (λ call. Unit {0}) (Quiet face laws) (quiet_along face laws conns) (Ticks face now) (WaitsFor face conns slots links until listed)
-      (ticks_quiet conns now) (waits_quiet conns slots links until listed)
+      then_along face conns (λ call. Unit {0}) (Quiet face laws) (quiet_along face laws conns) (WaitsFor face conns slots links until listed) (Ticks face now)
+      (waits_quiet conns slots links until listed) (ticks_quiet conns now)
 
   listeners_quiet : (conns : ℕ) (order stay : List ℕ) → Covers (Each (ListenerAt face conns) order stay) (Quiet face laws)
   listeners_quiet conns = all_quiet conns (ListenerAt face conns) (listener_along face conns (λ call. Unit {0}) (Quiet face laws) (quiet_along face laws conns) (λ at call on. tt))

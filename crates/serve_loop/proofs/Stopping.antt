@@ -1,5 +1,5 @@
 -- A turn that met a fault, and all turns up to it.
-use Rattle.std.proofs.Common.{◌≡◌, ℕ, List, [], ◌++◌, Bool, true, false, Option, None, inl, inr, refl, ap, sym, ◌∙◌, subst}
+use Rattle.std.proofs.Common.{◌≡◌, ℕ, List, [], ◌++◌, Bool, true, false, Option, Some, None, inl, inr, refl, ap, sym, ◌∙◌, subst}
 use Rattle.std.specs.Prelude.{Result, Ok, Err, OnOk, OnErr, IfErr}
 use Rattle.std.proofs.lemmas.List.{append-nil}
 use Rattle.px_outside.specs.Net.{Call}
@@ -11,7 +11,7 @@ use Rattle.serve_loop.specs.declared.serving.Serving.{Serving}
 use Rattle.serve_loop.specs.Broken.{Unbegun}
 use Rattle.serve_loop.specs.Events.{Grew, Tells, TellsFront}
 use Rattle.core_events.specs.Face.{Face}
-use Rattle.serve_loop.specs.Fallen.{IsFallen, DoneSome, TurnSome, WalkedSome}
+use Rattle.serve_loop.specs.Fallen.{AskedFor, FellAt, DoneSome, TurnSome, WalkedSome}
 use Rattle.serve_loop.specs.Faults.{FromNet, FromSink, FromNetOrSink, is_memory, is_not_net, turn_end}
 use Rattle.serve_loop.specs.Part.{stand, Ready, Part}
 use Rattle.serve_loop.specs.Server.{Round, BeginsAt, Rounds, Done, Running, Walked}
@@ -39,15 +39,15 @@ pub record Flushed (w : Result (Unit {0}) ServeFault) (j : Journal) (before afte
   pub err : OnErr w (AddsPrefix j.text before after)
   pub from : IfErr w (FromSink s s')
 
-module _ {C S : Type 0} (face : Face C) (did : S → Call → S → Type 0) (gave : S → ℕ → Type 0) (now : ℕ) (slots links : List ℕ)
-    (old : Serving C) (begun : Journal) (y : Serving C) (last : Journal) (n m : S) (before after : Option (List ℕ))
+module _ {C S T : Type 0} (face : Face C) (did : S → Call → S → Type 0) (gave : S → ℕ → Type 0) (ticked : T → ℕ → T → Type 0) (slots links : List ℕ)
+    (old : Serving C) (begun : Journal) (y : Serving C) (last : Journal) (n m : S) (t u : T) (before after : Option (List ℕ))
     (none : old.journal.text ≡ [] → begun.text ≡ []) (untold : begun.recording ≡ false → before ≡ None) where
   abbrev First : Serving C
   First = record old { journal = begun }
 
   abbrev Ends : ServeFault → Type 0
-  Ends why = Ready face (gave n) (stand old) → old.journal.text ≡ []
-      → TurnSome face did gave why now slots links old (record y { journal = last }) n m before after
+  Ends why = (moment : Option ℕ) × AskedFor ticked moment t u × (Ready face (gave n) (stand old) → old.journal.text ≡ []
+      → TurnSome face did gave why moment slots links old (record y { journal = last }) n m before after)
 
   -- what was written of the lines that were written down
   abbrev Wrote : Bool → ServeFault → Type 0
@@ -55,47 +55,57 @@ module _ {C S : Type 0} (face : Face C) (did : S → Call → S → Type 0) (gav
       → TellsFront (Grew before after) (is_not_net why) lines
 
   -- where the turn is whole
-  whole : (why : ServeFault) → Wrote false why → WholeTurn face did gave now slots links First y n m → Ends why
+  whole : (why : ServeFault) → Wrote false why → (now : ℕ) × ticked t now u × WholeTurn face did gave now slots links First y n m → Ends why
   unfolding breaks_off breaks_behind
-  whole why wrote turn s waits =
-      let it = turn.part.from s in
-      let one = it.made in
-      let walks = rounds_walk face turn.round old.conns (stand old) one.steps (stand y) one.leads in
-      let told : TellsFront (Tells begun y.journal) false (text_in one.steps ++ [])
-      = record { text = text_in one.steps; told = it.told; front = record { missing = []; text_is = refl; whole = λ e. refl } } in
-      record {
-        done = record {
-          short = false;
-          at_memory = λ e. cc;
-          walk = breaks_behind refl one walks (breaks_off Unbegun refl refl one.ready.stands (once_none (λ l there. there)));
-          lines = wrote (record { none_before = none waits; untold = untold }) _
-              (lines_behind (TellsFront (Tells begun y.journal) false) one.steps [] Unbegun told);
-        };
-        order = inl (record {
-          round = turn.round;
-          begins = turn.begins;
-          rounds = subst (λ (l : List Step). Rounds face turn.round old.conns (stand old) l (stand y)) (sym (append-nil one.steps)) one.leads;
-          none_broken = refl;
-        });
-      }
+  whole why wrote (now, asked, turn) = (
+    Some now,
+    asked,
+    λ s waits.
+        let it = turn.part.from s in
+        let one = it.made in
+        let walks = rounds_walk face turn.round old.conns (stand old) one.steps (stand y) one.leads in
+        let told : TellsFront (Tells begun y.journal) false (text_in one.steps ++ [])
+        = record { text = text_in one.steps; told = it.told; front = record { missing = []; text_is = refl; whole = λ e. refl } } in
+        record {
+          done = record {
+            short = false;
+            at_memory = λ e. cc;
+            walk = breaks_behind refl one walks (breaks_off Unbegun refl refl one.ready.stands (once_none (λ l there. there)));
+            lines = wrote (record { none_before = none waits; untold = untold }) _
+                (lines_behind (TellsFront (Tells begun y.journal) false) one.steps [] Unbegun told);
+          };
+          order = inl (record {
+            now = now;
+            moment_is = refl;
+            round = turn.round;
+            begins = turn.begins;
+            rounds = subst (λ (l : List Step). Rounds face turn.round old.conns (stand old) l (stand y)) (sym (append-nil one.steps)) one.leads;
+            none_broken = refl;
+          });
+        },
+  )
 
   -- where it broke off
   broke : (why : ServeFault) (short : Bool) → (short ≡ true → why ≡ fault.Memory) → Wrote short why
-      → IsFallen face did gave now slots links short First y n m → Ends why
-  broke why short at wrote fallen s waits =
-      let it = fallen.from s in
-      record {
-        done = record {
-          short = short;
-          at_memory = at;
-          walk = it.walk;
-          lines = wrote (record { none_before = none waits; untold = untold }) _ it.lines;
-        };
-        order = inr it.kinds;
-      }
+      → FellAt face did gave ticked slots links short First y n m t u → Ends why
+  broke why short at wrote fell = (
+    fell.moment,
+    fell.asked,
+    λ s waits.
+        let it = fell.fallen.from s in
+        record {
+          done = record {
+            short = short;
+            at_memory = at;
+            walk = it.walk;
+            lines = wrote (record { none_before = none waits; untold = untold }) _ it.lines;
+          };
+          order = inr it.kinds;
+        },
+  )
 
-  pub fell_by : (a b s s' : ℕ) (r w : Result (Unit {0}) ServeFault) → OnOk r (WholeTurn face did gave now slots links First y n m)
-      → IfErr r (λ why. IsFallen face did gave now slots links (is_memory why) First y n m) → IfErr r (FromNet a b)
+  pub fell_by : (a b s s' : ℕ) (r w : Result (Unit {0}) ServeFault) → OnOk r ((now : ℕ) × ticked t now u × WholeTurn face did gave now slots links First y n m)
+      → IfErr r (λ why. FellAt face did gave ticked slots links (is_memory why) First y n m t u) → IfErr r (FromNet a b)
       → Flushed w y.journal before after s s' → IfErr (turn_end r w) Ends
   fell_by a b s s' (Ok u) (Ok v) turn fallen from it = tt
   fell_by a b s s' (Ok u) (Err fault.Net) turn fallen from it = absurd it.from

@@ -1,7 +1,6 @@
 -- A turn is a walk, and behind its wait listeners and links are asked, what is ready goes on, and what is pending is written.
 use Rattle.std.proofs.Common.{◌≡◌, ◌⊎◌, ℕ, zero, suc, List, [], ◌∷◌, Bool, true, false, Option, None, refl, sym, subst, inl, inr}
 use Rattle.px_bytes.specs.declared.addr.Side.{Side}
-use Rattle.px_bytes.specs.declared.addr.Side.TheVariants.{Client, Server}
 use Rattle.px_outside.specs.declared.answers.ReadyAt.{ReadyAt}
 use Rattle.px_outside.specs.declared.answers.ReadyAt.TheVariants as ready
 use Rattle.px_outside.specs.declared.answers.WriteAnswer.{WriteAnswer}
@@ -9,18 +8,17 @@ use Rattle.px_outside.specs.Net.{Call, Listen, Wait, Accept, Connect, Ask, Read,
 use Rattle.core_events.specs.declared.event.Event.{Event}
 use Rattle.core_events.specs.declared.event.Event.TheVariants as event
 use Rattle.serve_loop.specs.declared.polled.Polled.{Polled}
-use Rattle.serve_loop.specs.declared.polled.Polled.TheVariants as is
 use Rattle.serve_loop.specs.declared.poll.Poll.{Poll}
 use Rattle.serve_loop.specs.declared.poll.Poll.TheVariants as work
-use Rattle.serve_loop.specs.Asking.{IsOn, OneCall, AskedOnce}
+use Rattle.serve_loop.specs.Asking.{IsOn, AskedOnce}
 use Rattle.serve_loop.specs.Broken.{AreAsks, IsAsk}
 use Rattle.core_events.specs.Face.{Face}
-use Rattle.serve_loop.specs.Often.{NotAsked, GaveOften, TriedLast, Tried, Each}
+use Rattle.serve_loop.specs.Often.{NotAsked, GaveOften, Each}
 use Rattle.serve_loop.specs.Running.{OwnStep, OnePair, GavePairs, RanLast, Ran}
 use Rattle.serve_loop.specs.Server.{Round, RunsAndWrites, AsksLinks, AsksAll, Rounds}
-use Rattle.serve_loop.specs.Turn.{Ticks, Waits, WaitsFor, TicksAndWaits, WorkAt, WritesAt, ListenerAt, LinkAt, due_now, listed_slots, listed_links}
+use Rattle.serve_loop.specs.Turn.{Ticks, WaitsFor, WaitsAndTicks, WorkAt, WritesAt, ListenerAt, LinkAt, due_now, listed_slots, listed_links}
 use Rattle.serve_loop.specs.Walk.{Around, Given, Step, Own, Asked as Asks, IsOwn, Takes, Walks, Then}
-use Rattle.serve_loop.specs.Writing.{OneWrite, WroteOnce, Wrote}
+use Rattle.serve_loop.specs.Writing.{WroteOnce, Wrote}
 use Rattle.serve_loop.proofs.Along.{Along, Covers, asked_along, both_along, each_along, link_along, listener_along, none_along, not_along, often_along, side_along, then_along, wrote_along}
 use Rattle.serve_loop.proofs.Compose.{walks_append}
 use Rattle.serve_loop.proofs.Fresh.{all_append}
@@ -55,14 +53,14 @@ own_walks {C} face conns e own a l b it =
       },
     )
 
-pub ticks_walks : {C : Type 0} (face : Face C) (conns now : ℕ) (a : Around C) (l : List Step) (b : Around C) → Ticks face now a l b → Walks face conns a l b
+ticks_walks : {C : Type 0} (face : Face C) (conns now : ℕ) (a : Around C) (l : List Step) (b : Around C) → Ticks face now a l b → Walks face conns a l b
 ticks_walks face conns now a l b it =
     elim it.ticks [ inl x ↦ own_walks face conns _ tt a l b x.1 | inr x ↦ none_walks face conns a l b x.none x.same ]
 
-waited_walks : {C : Type 0} (face : Face C) (conns until : ℕ) (listed : List ReadyAt) (a : Around C) (l : List Step) (b : Around C)
-    → Waits until listed a l b → Walks face conns a l b
-waited_walks face conns until listed a l b it =
-    step_walks face conns a l b _ it.waits (record { event = None; may = refl; links = a.links; after = refl; becomes = it.same })
+pub waits_walks : {C : Type 0} (face : Face C) (conns : ℕ) (slots links : List ℕ) (until : ℕ) (listed : List ReadyAt) (a : Around C) (l : List Step)
+    (b : Around C) → WaitsFor face conns slots links until listed a l b → Walks face conns a l b
+waits_walks face conns slots links until listed a l b it =
+    step_walks face conns a l b _ it.waits.waits (record { event = None; may = refl; links = a.links; after = refl; becomes = it.waits.same })
 
 -- ---- walks behind the wait
 
@@ -173,14 +171,14 @@ asks_goes face r conns =
     (then_goes face conns (Ran face 2048 r.ready r.writers_were r.writers) (Each (WritesAt face conns) r.writers r.writers_stay)
     (ran_goes face conns 2048 r.ready r.writers_were r.writers) (all_goes face work.Writer conns _ _)))
 
-pub waits_walks : {C : Type 0} (face : Face C) (conns now : ℕ) (slots links : List ℕ) (until : ℕ) (listed : List ReadyAt) (a : Around C) (l : List Step)
-    (b : Around C) → TicksAndWaits face conns now slots links until listed a l b → Walks face conns a l b
-waits_walks face conns now slots links until listed =
-    then_walks face conns (Ticks face now) (WaitsFor face conns slots links until listed) (ticks_walks face conns now)
-    (λ a l b it. waited_walks face conns until listed a l b it.waits)
+pub begin_walks : {C : Type 0} (face : Face C) (conns now : ℕ) (slots links : List ℕ) (until : ℕ) (listed : List ReadyAt) (a : Around C) (l : List Step)
+    (b : Around C) → WaitsAndTicks face conns now slots links until listed a l b → Walks face conns a l b
+begin_walks face conns now slots links until listed =
+    then_walks face conns (WaitsFor face conns slots links until listed) (Ticks face now) (waits_walks face conns slots links until listed)
+    (ticks_walks face conns now)
 
 pub rounds_walk : {C : Type 0} (face : Face C) (r : Round) (conns : ℕ) (a : Around C) (l : List Step) (b : Around C)
     → Rounds face r conns a l b → Walks face conns a l b
 rounds_walk face r conns =
-    then_walks face conns (TicksAndWaits face conns r.now r.slots r.links r.until r.listed) (AsksAll face r conns)
-    (waits_walks face conns r.now r.slots r.links r.until r.listed) (λ a l b it. (asks_goes face r conns a l b it).0)
+    then_walks face conns (WaitsAndTicks face conns r.now r.slots r.links r.until r.listed) (AsksAll face r conns)
+    (begin_walks face conns r.now r.slots r.links r.until r.listed) (λ a l b it. (asks_goes face r conns a l b it).0)

@@ -1,5 +1,5 @@
 -- A turn that met a fault, and the turns before it.
-use Rattle.std.specs.Prelude.{◌≡◌, ◌⊎◌, ℕ, ◌<◌, ◌≤◌, List, [], ◌++◌, Bool, true, Option, Some, Err}
+use Rattle.std.specs.Prelude.{◌≡◌, ◌⊎◌, ℕ, ◌<◌, ◌≤◌, List, [], ◌++◌, Bool, true, Option, Some, None, Err}
 use Rattle.std.specs.Prelude.{min}
 use Rattle.px_bytes.specs.declared.addr.Addr.{Addr}
 use Rattle.px_outside.specs.declared.answers.ReadyAt.{ReadyAt}
@@ -16,59 +16,84 @@ use Rattle.serve_loop.specs.Faults.{fault_of, is_not_net}
 use Rattle.serve_loop.specs.Part.{Ready, stand}
 use Rattle.serve_loop.specs.Server.{Round, BeginsAt, Rounds}
 use Rattle.serve_loop.specs.Server.{Running, Turns, Behind, Walked, AsksInTurns, ListensTo}
-use Rattle.serve_loop.specs.Turn.{Ticks, TicksAndWaits, IsUntil, tick_limit}
+use Rattle.serve_loop.specs.Turn.{WaitsFor, WaitsAndTicks, IsUntil, tick_limit}
 use Rattle.serve_loop.specs.Walk.{Around, Step, text_in}
 
--- It met the fault in its Tick, of a moment above the present one.
-pub record FellTicking {C : Type 0} (face : Face C) (now : ℕ) (a : Around C) (all : List Step)
+-- It met the fault in its wait, no longer than until something can be done.
+pub record FellWaiting {C : Type 0} (face : Face C) (conns : ℕ) (slots links : List ℕ)
+    (a : Around C) (all : List Step) : Type 0 where
+  pub until : ℕ
+  pub is_until : IsUntil face conns a slots links until
+  pub waits : AtMostOne (IsWait until) all
+
+-- a Tick of a moment above the present one, which met a fault
+pub record FellTick {C : Type 0} (face : Face C) (now : ℕ) (a : Around C) (all : List Step)
     : Type 0 where
   pub present : ℕ
   pub is_present : face.moment a.core present
   pub above : present < min now tick_limit
   pub tick : AtMostOne (IsTick now) all
 
--- Or behind it in its wait, no longer than until something can be done.
-pub record FellWaiting {C : Type 0} (face : Face C) (conns now : ℕ) (slots links : List ℕ)
+-- Or behind that in its Tick.
+pub record FellTicking {C : Type 0} (face : Face C) (conns now : ℕ) (slots links : List ℕ)
     (a : Around C) (all : List Step) : Type 0 where
-  pub ticked : Around C
-  pub tick : List Step
+  pub waited : Around C
   pub wait : List Step
-  pub all_are : all ≡ tick ++ wait
-  pub ticks : Ticks face now a tick ticked
+  pub tick : List Step
+  pub all_are : all ≡ wait ++ tick
   pub until : ℕ
-  pub is_until : IsUntil face conns ticked slots links until
-  pub waits : AtMostOne (IsWait until) wait
+  pub listed : List ReadyAt
+  pub waits : WaitsFor face conns slots links until listed a wait waited
+  pub fell : FellTick face now waited tick
 
 -- Or behind that, where listeners and links are asked, what is ready goes on, and what is pending
 -- is written.
 pub record FellAsking {C : Type 0} (face : Face C) (conns now : ℕ) (slots links : List ℕ)
     (a : Around C) (all : List Step) : Type 0 where
-  pub waited : Around C
-  pub wait : List Step
+  pub ticked : Around C
+  pub begin : List Step
   pub asks : List Step
-  pub all_are : all ≡ wait ++ asks
+  pub all_are : all ≡ begin ++ asks
   pub until : ℕ
   pub listed : List ReadyAt
-  pub waits : TicksAndWaits face conns now slots links until listed a wait waited
+  pub begins : WaitsAndTicks face conns now slots links until listed a begin ticked
   pub are_asks : AreAsks asks
 
--- the steps of a turn up to where it broke off, in their order
-abbrev pub InOrder : {C : Type 0} → Face C → (conns now : ℕ) → (slots links : List ℕ) → Around C
-    → List Step → Type 0
-InOrder face conns now slots links a all = FellTicking face now a all
-    ⊎ (FellWaiting face conns now slots links a all ⊎ FellAsking face conns now slots links a all)
+-- the steps of a turn up to where it broke off, in their order: in its wait, where the clock gave no
+-- moment; else behind its wait, at the moment that the clock gave
+abbrev pub InOrder : {C : Type 0} → Face C → (conns : ℕ) → (moment : Option ℕ)
+    → (slots links : List ℕ) → Around C → List Step → Type 0
+InOrder face conns None slots links a all = FellWaiting face conns slots links a all
+InOrder face conns (Some now) slots links a all = FellTicking face conns now slots links a all
+    ⊎ FellAsking face conns now slots links a all
 
--- what was done of a turn at this moment, wherever the loop stood
+-- what was done of a turn at this moment, if the clock gave one, wherever the loop stood
 abbrev pub IsFallen : {C S : Type 0} → Face C → (S → Call → S → Type 0) → (S → ℕ → Type 0)
-    → (now : ℕ) → (slots links : List ℕ) → (short : Bool) → (old new : Serving C) → (net net' : S)
-    → Type 0
-IsFallen face did gave now slots links short old new net net' =
-    IsBroken face did gave (InOrder face old.conns now slots links (stand old)) short
+    → (moment : Option ℕ) → (slots links : List ℕ) → (short : Bool) → (old new : Serving C)
+    → (net net' : S) → Type 0
+IsFallen face did gave moment slots links short old new net net' =
+    IsBroken face did gave (InOrder face old.conns moment slots links (stand old)) short
     old new net net'
 
+-- the clock was asked for this moment, once, or not at all
+abbrev pub AskedFor : {T : Type 0} → (T → ℕ → T → Type 0) → Option ℕ → T → T → Type 0
+AskedFor ticked None clock clock' = clock' ≡ clock
+AskedFor ticked (Some now) clock clock' = ticked clock now clock'
+
+-- What was done of a turn: where it met the fault in its wait, the clock wasn't asked.
+pub record FellAt {C S T : Type 0} (face : Face C) (did : S → Call → S → Type 0)
+    (gave : S → ℕ → Type 0) (ticked : T → ℕ → T → Type 0) (slots links : List ℕ) (short : Bool)
+    (old new : Serving C) (net net' : S) (clock clock' : T) : Type 0 where
+  pub moment : Option ℕ
+  pub asked : AskedFor ticked moment clock clock'
+  pub fallen : IsFallen face did gave moment slots links short old new net net'
+
 -- or all steps of a turn, where only the writing of their lines failed
-pub record WholeRound {C : Type 0} (face : Face C) (conns now : ℕ) (slots links : List ℕ)
-    (a : Around C) (steps : List Step) (b : Around C) (broken : Broken) : Type 0 where
+pub record WholeRound {C : Type 0} (face : Face C) (conns : ℕ) (moment : Option ℕ)
+    (slots links : List ℕ) (a : Around C) (steps : List Step) (b : Around C) (broken : Broken)
+    : Type 0 where
+  pub now : ℕ
+  pub moment_is : moment ≡ Some now
   pub round : Round
   pub begins : BeginsAt round now slots links
   pub rounds : Rounds face round conns a steps b
@@ -85,26 +110,26 @@ pub record DoneSome {C : Type 0} (face : Face C) {S : Type 0} (did : S → Call 
   pub lines : TellsFront (Grew before after) (is_not_net why)
       (text_in (walk.steps ++ steps_of walk.broken))
 
--- in the order of a turn at this moment
+-- in the order of a turn at this moment, if the clock gave one
 pub record TurnSome {C : Type 0} (face : Face C) {S : Type 0} (did : S → Call → S → Type 0)
-    (gave : S → ℕ → Type 0) (why : ServeFault) (now : ℕ) (slots links : List ℕ)
+    (gave : S → ℕ → Type 0) (why : ServeFault) (moment : Option ℕ) (slots links : List ℕ)
     (old new : Serving C) (net net' : S) (before after : Option (List ℕ)) : Type 0 where
   pub done : DoneSome face did gave why old new net net' before after
-  pub order : WholeRound face old.conns now slots links (stand old)
+  pub order : WholeRound face old.conns moment slots links (stand old)
       done.walk.steps done.walk.mid done.walk.broken
-      ⊎ InOrder face old.conns now slots links (stand old)
+      ⊎ InOrder face old.conns moment slots links (stand old)
       (done.walk.steps ++ steps_of done.walk.broken)
 
--- A turn that met a fault: one moment was asked for, and this was done, from wherever the server
--- stood with no line that waits.
+-- A turn that met a fault: one moment was asked for behind its wait, or none where the wait failed,
+-- and this was done, from wherever the server stood with no line that waits.
 pub record Fell {C S T : Type 0} (face : Face C) (did : S → Call → S → Type 0)
     (gave : S → ℕ → Type 0) (ticked : T → ℕ → T → Type 0) (why : ServeFault)
     (old new : Running C S T) : Type 0 where
-  pub now : ℕ
-  pub asked : ticked old.clock now new.clock
+  pub moment : Option ℕ
+  pub asked : AskedFor ticked moment old.clock new.clock
   pub turn : Ready face (gave old.net) (stand old.server.serving)
       → old.server.serving.journal.text ≡ []
-      → TurnSome face did gave why now old.server.slots old.server.links
+      → TurnSome face did gave why moment old.server.slots old.server.links
       old.server.serving new.server.serving old.net new.net old.written new.written
 
 -- all steps of all turns, those of the one that met the fault among them

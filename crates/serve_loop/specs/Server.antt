@@ -18,13 +18,14 @@ use Rattle.serve_loop.specs.Often.{Each}
 use Rattle.serve_loop.specs.Part.{Made, Part, Ready, stand}
 use Rattle.serve_loop.specs.Pending.{AllAmong, IsWrite, PendingOn, SendsInRuns, takes_no_more}
 use Rattle.serve_loop.specs.Running.{Ran}
-use Rattle.serve_loop.specs.Turn.{TicksAndWaits, CanAccept, listed_slots, listed_links, due_now}
+use Rattle.serve_loop.specs.Turn.{WaitsAndTicks, CanAccept, listed_slots, listed_links, due_now}
 use Rattle.serve_loop.specs.Turn.{ListenerAt, LinkAt, WritesAt}
 use Rattle.serve_loop.specs.Walk.{Around, Step, Walks, text_in, Then}
 
--- what a turn found and left: how long it waited, what was listed, which listeners and links stay
--- due, whether something is ready, on which connections something was pending, to which it wrote,
--- those and all that ran, and on which something is pending still
+-- what a turn found and left: the moment behind its wait, which listeners and links were due, how
+-- long it waited, what was listed, which listeners and links stay due, whether something is ready, on
+-- which connections something was pending, to which it wrote, those and all that ran, and on which
+-- something is pending still
 pub record Round : Type 0 where
   pub now : ℕ
   pub slots : List ℕ
@@ -60,15 +61,15 @@ AsksAll face r conns a steps b =
 -- the five things of a turn, in order
 abbrev pub Rounds : {C : Type 0} → Face C → Round → ℕ → Around C → List Step → Around C → Type 0
 Rounds face r conns a steps b =
-    Then (TicksAndWaits face conns r.now r.slots r.links r.until r.listed) (AsksAll face r conns)
+    Then (WaitsAndTicks face conns r.now r.slots r.links r.until r.listed) (AsksAll face r conns)
     a steps b
 
--- the Tick and the wait of a turn, and until when it waited
+-- the wait and the Tick of a turn, and until when it waited
 pub record Waited {C : Type 0} (face : Face C) {S : Type 0} (did : S → Call → S → Type 0)
     (gave : S → ℕ → Type 0) (now : ℕ) (slots links : List ℕ) (listed : List ReadyAt)
     (old new : Serving C) (net net' : S) : Type 0 where
   pub until : ℕ
-  pub part : Part face did gave (TicksAndWaits face old.conns now slots links until listed)
+  pub part : Part face did gave (WaitsAndTicks face old.conns now slots links until listed)
       old new net net'
 
 -- It was at this moment, with these listeners and links due from before.
@@ -142,7 +143,7 @@ abbrev pub Behind : {C : Type 0} → Face C → (made : ℕ) → Serving C → T
 Behind face zero s = Unit {0}
 Behind face (suc n) s = GoesOn face s
 
--- one turn after another, each at the moment that the clock gave then; none behind one at whose end
+-- one turn after another, each at the one moment that the clock gave in it; none behind one at whose end
 -- all were over
 abbrev pub Turns : {C S T : Type 0} → Face C → (S → Call → S → Type 0) → (S → ℕ → Type 0)
     → (T → ℕ → T → Type 0) → ℕ → Running C S T → Running C S T → Type 0

@@ -74,7 +74,8 @@ IsQuiet face conns a [] links = face.settled a.core true × AnyAsks face conns a
 IsQuiet face conns a (s ∷ slots) links = face.settled a.core true
     × (CanAccept face conns a false × AnyAsks face conns a links false)
 
--- it waits for no time where something can be done, else until something is due by time alone
+-- It waits for no time where something can be done, else until something is due by time alone. Both
+-- are the core's answers as the turn found it, at the moment of the Tick before.
 abbrev pub IsUntil : {C : Type 0} → Face C → ℕ → Around C → (slots links : List ℕ) → ℕ → Type 0
 IsUntil face conns a slots links until =
     (IsBusy face conns a slots links × face.moment a.core until)
@@ -86,11 +87,11 @@ pub record WaitsFor {C : Type 0} (face : Face C) (conns : ℕ) (slots links : Li
   pub is_until : IsUntil face conns a slots links until
   pub waits : Waits until listed a steps b
 
--- the Tick before
-abbrev pub TicksAndWaits : {C : Type 0} → Face C → (conns now : ℕ) → (slots links : List ℕ)
+-- and then the Tick, so that what is listed comes at the moment behind the wait
+abbrev pub WaitsAndTicks : {C : Type 0} → Face C → (conns now : ℕ) → (slots links : List ℕ)
     → (until : ℕ) → List ReadyAt → Around C → List Step → Around C → Type 0
-TicksAndWaits face conns now slots links until listed a steps b =
-    Then (Ticks face now) (WaitsFor face conns slots links until listed) a steps b
+WaitsAndTicks face conns now slots links until listed a steps b =
+    Then (WaitsFor face conns slots links until listed) (Ticks face now) a steps b
 
 -- the listeners and the links of what a wait listed
 abbrev pub listed_slots : List ReadyAt → List ℕ

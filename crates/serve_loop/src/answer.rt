@@ -12,10 +12,10 @@ ghost use Rattle.serve_loop.specs.Faults.{FromNet, is_memory};
 
 use crate::serving::Serving;
 use crate::{LinkOwner, Polled, ServeFault};
-use core_events::{Core, Event};
+use core_events::{Event, EventCore};
 use px_outside::{ConnectAnswer, Net};
 
-impl<C: Core + Drop> Serving<C> {
+impl<C: EventCore + Drop> Serving<C> {
     /// Asks what became of a connect. The net has closed a link that is refused.
     #[tactic(auto, using(crate::proofs::Failing::from_later, crate::proofs::Failing::from_memory))]
     pub(crate) fn answer<N: Net>(

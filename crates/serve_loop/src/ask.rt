@@ -11,11 +11,11 @@ ghost use Rattle.serve_loop.specs.Faults.{FromNet, is_memory};
 
 use crate::serving::Serving;
 use crate::{Polled, ServeFault};
-use core_events::{Core, Event};
+use core_events::{Event, EventCore};
 use px_bytes::{M, Side, Text};
 use px_outside::{Accepted, Net};
 
-impl<C: Core + Drop> Serving<C> {
+impl<C: EventCore + Drop> Serving<C> {
     /// Asks a listener for a connection, if one may be accepted.
     #[tactic(auto, using(crate::proofs::Failing::from_later, crate::proofs::Failing::from_memory))]
     pub(crate) fn accept<N: Net>(&mut self, net: &mut N, slot: u32) -> Result<Polled, ServeFault>

@@ -11,7 +11,7 @@ use crate::journal::Journal;
 use crate::server::Server;
 use crate::serving::Serving;
 use crate::{Links, Numbers, ServeFault};
-use core_events::{Core, Notes};
+use core_events::{EventCore, Notes};
 use px_bytes::{M, Seq};
 use px_outside::{Net, ReadyList};
 use std::alloc::Global;
@@ -19,7 +19,7 @@ use std::alloc::Global;
 /// The most bytes of one read.
 const ROOM: usize = 65_536;
 
-impl<C: Core + Drop> Server<C> {
+impl<C: EventCore + Drop> Server<C> {
     /// Listens for each virtual server of a core, to accept so many connections at most.
     #[tactic(auto, using(crate::proofs::Failing::from_later, crate::proofs::Failing::from_memory))]
     pub fn new<N: Net>(
@@ -60,7 +60,7 @@ fn room(alloc: Global) -> M<Vec<u8>>
 }
 
 #[tactic(auto, using(crate::proofs::Failing::from_later, crate::proofs::Failing::from_memory))]
-fn listen_all<C: Core, N: Net>(core: &C, net: &mut N) -> Result<(), ServeFault>
+fn listen_all<C: EventCore, N: Net>(core: &C, net: &mut N) -> Result<(), ServeFault>
     ensures listens { OnOk result ((n : ℕ) × C.face.slots core.now n
         × ListensAll C.face N.did core.now n net.old net.new) }
     ensures broke { IfErr result (λ why. ListensSome C.face N.did why core.now net.old net.new) }
@@ -74,7 +74,7 @@ fn listen_all<C: Core, N: Net>(core: &C, net: &mut N) -> Result<(), ServeFault>
 }
 
 #[tactic(auto, using(crate::proofs::Failing::from_later, crate::proofs::Failing::from_memory))]
-fn listen_at<C: Core, N: Net>(core: &C, net: &mut N, slot: u32) -> Result<(), ServeFault>
+fn listen_at<C: EventCore, N: Net>(core: &C, net: &mut N, slot: u32) -> Result<(), ServeFault>
     ensures listens { OnOk result ((at : Option Addr) × C.face.listens core.now slot at
         × Chain N.did net.old (listen_calls slot at) net.new) }
     ensures broke { IfErr result

@@ -10,11 +10,11 @@ ghost use Rattle.serve_loop.specs.Faults.{FromNet, is_memory};
 use crate::poll::Poll;
 use crate::serving::Serving;
 use crate::{Numbers, ServeFault};
-use core_events::Core;
+use core_events::EventCore;
 use px_bytes::{Seq, Side};
 use px_outside::Net;
 
-impl<C: Core + Drop> Serving<C> {
+impl<C: EventCore + Drop> Serving<C> {
     /// Does this with each number of a list, in order, and leaves those that stay.
     #[tactic(auto, using(crate::proofs::Failing::from_later, crate::proofs::Failing::from_memory))]
     pub(crate) fn each<N: Net>(

@@ -10,10 +10,10 @@ ghost use Rattle.serve_loop.specs.Faults.{FromNet, is_memory};
 
 use crate::serving::Serving;
 use crate::{Polled, ServeFault};
-use core_events::Core;
+use core_events::EventCore;
 use px_outside::Net;
 
-impl<C: Core + Drop> Serving<C> {
+impl<C: EventCore + Drop> Serving<C> {
     /// Asks a listener until it gives no more, 16 times at most. Says whether it stays due.
     #[tactic(auto, using(crate::proofs::Failing::from_later, crate::proofs::Failing::from_memory))]
     pub(crate) fn ask_listener<N: Net>(

@@ -11,10 +11,10 @@ ghost use Rattle.serve_loop.specs.Faults.{FromNet, is_memory};
 use crate::polled::{asked_by, read_to_event};
 use crate::serving::Serving;
 use crate::{LinkOwner, Polled, ServeFault};
-use core_events::Core;
+use core_events::EventCore;
 use px_outside::Net;
 
-impl<C: Core + Drop> Serving<C> {
+impl<C: EventCore + Drop> Serving<C> {
     /// Reads from a link as much as is wanted, and no more than the room holds.
     #[tactic(auto, using(crate::proofs::Failing::from_later, crate::proofs::Failing::from_memory))]
     pub(crate) fn read<N: Net>(

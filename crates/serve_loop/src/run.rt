@@ -8,11 +8,11 @@ ghost use Rattle.serve_loop.specs.Faults.{FromNet, is_memory};
 
 use crate::serving::Serving;
 use crate::{Numbers, Polled, ServeFault};
-use core_events::{Core, Event};
+use core_events::{Event, EventCore};
 use px_bytes::M;
 use px_outside::Net;
 
-impl<C: Core + Drop> Serving<C> {
+impl<C: EventCore + Drop> Serving<C> {
     /// Gives pairs of a Run and a Turn until nothing is ready, 2,048 at most. The connections that
     /// ran are added to the writers. Says whether something is ready still.
     #[tactic(auto, using(crate::proofs::Failing::from_later, crate::proofs::Failing::from_memory))]

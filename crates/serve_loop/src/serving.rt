@@ -8,7 +8,7 @@ ghost use Rattle.serve_loop.specs.Faults.{FromNet, is_memory};
 use crate::carry::carry;
 use crate::journal::Journal;
 use crate::{Links, ServeFault};
-use core_events::{Core, Event, Notes};
+use core_events::{Event, EventCore, Notes};
 use px_outside::Net;
 use std::alloc::Global;
 
@@ -25,7 +25,7 @@ pub struct Serving<C> {
     pub(crate) journal: Journal,
 }
 
-impl<C: Core + Drop> Serving<C> {
+impl<C: EventCore + Drop> Serving<C> {
     /// Gives an event to the core, and makes the calls that its notes ask for.
     #[tactic(auto, using(crate::proofs::Failing::from_later, crate::proofs::Failing::from_memory))]
     pub(crate) fn give<N: Net>(&mut self, net: &mut N, event: Event) -> Result<(), ServeFault>

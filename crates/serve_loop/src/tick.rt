@@ -1,31 +1,31 @@
-// The clock, and how long to wait.
+// How long to wait, and the clock.
 
-ghost use Rattle.std.specs.Prelude.{◌≡◌, OnOk, min, IfErr, ◌≤◌};
+ghost use Rattle.std.specs.Prelude.{◌≡◌, ℕ, OnOk, min, IfErr, ◌≤◌};
 ghost use Rattle.serve_loop.specs.Server.{IsOverOr, Waited};
 ghost use Rattle.serve_loop.specs.Part.{Part, stand};
 ghost use Rattle.serve_loop.specs.Turn.{Ticks, Waits, IsUntil, tick_limit};
 ghost use Rattle.serve_loop.specs.Turn.{AnyAsks, CanAccept, CanAsk};
 ghost use Rattle.serve_loop.specs.Broken.{AtMostOne, IsBroken, IsWait};
-ghost use Rattle.serve_loop.specs.Fallen.{FellTicking, IsFallen};
+ghost use Rattle.serve_loop.specs.Fallen.{FellAt, FellTick};
 ghost use Rattle.serve_loop.specs.Faults.{FromNet, is_memory};
 
 use crate::ServeFault;
 use crate::serving::Serving;
-use core_events::{Core, Event};
+use core_events::{Event, EventCore};
 use px_bytes::{Seq, Side};
-use px_outside::{Net, ReadyList};
+use px_outside::{Clock, Net, ReadyList};
 
 /// The greatest moment of a Tick.
 const TICK_LIMIT: u64 = 9_007_199_254_740_992;
 
-impl<C: Core + Drop> Serving<C> {
-    /// Gives the present moment to the core, where it is above the last one.
+impl<C: EventCore + Drop> Serving<C> {
+    /// Gives this moment to the core, where it is above the present one.
     #[tactic(auto, using(crate::proofs::Failing::from_later, crate::proofs::Failing::from_memory))]
     fn tick<N: Net>(&mut self, net: &mut N, now: u64) -> Result<(), ServeFault>
         ensures part { OnOk result (Part C.face N.did N.gave
             (Ticks C.face now) self.old self.new net.old net.new) }
         ensures broke { IfErr result (λ why. IsBroken C.face N.did N.gave
-            (FellTicking C.face now (stand self.old)) (is_memory why)
+            (FellTick C.face now (stand self.old)) (is_memory why)
             self.old self.new net.old net.new) }
         ensures fails { IfErr result (FromNet (N.faults net.old) (N.faults net.new)) }
         ensures faults_never_fall { N.faults net.old ≤ N.faults net.new }
@@ -38,27 +38,31 @@ impl<C: Core + Drop> Serving<C> {
         Ok(())
     }
 
-    /// Gives the present moment to the core, and waits until something may be ready, where these
-    /// listeners and links are due.
+    /// Waits until something may be ready, where these listeners and links are due, and then gives
+    /// the core the moment of the clock, so that what the wait brings comes at this moment. Where
+    /// the wait fails the clock isn't asked.
     #[tactic(auto, using(crate::proofs::Failing::from_later, crate::proofs::Failing::from_memory))]
-    pub(crate) fn wait_for_ready<N: Net>(
+    pub(crate) fn wait_and_tick<N: Net, T: Clock>(
         &mut self,
         net: &mut N,
-        now: u64,
+        clock: &mut T,
         slots: &Seq<u32>,
         links: &Seq<u32>,
         listed: &mut ReadyList,
     ) -> Result<(), ServeFault>
-        ensures waited { OnOk result (Waited C.face N.did N.gave now slots.now links.now listed.new
+        ensures waited { OnOk result ((now : ℕ) × T.gave clock.old now clock.new
+            × Waited C.face N.did N.gave now slots.now links.now listed.new
             self.old self.new net.old net.new) }
-        ensures fallen { IfErr result (λ why. IsFallen C.face N.did N.gave now slots.now links.now
-            (is_memory why) self.old self.new net.old net.new) }
+        ensures fell { IfErr result (λ why. FellAt C.face N.did N.gave T.gave slots.now links.now
+            (is_memory why) self.old self.new net.old net.new clock.old clock.new) }
         ensures fails { IfErr result (FromNet (N.faults net.old) (N.faults net.new)) }
         ensures faults_never_fall { N.faults net.old ≤ N.faults net.new }
+        ensures clock_faults_never_fall { T.faults clock.old ≤ T.faults clock.new }
     {
-        self.tick(net, now)?;
         let until = self.until(slots.as_slice(), links.as_slice());
         self.wait(net, until, listed)?;
+        let now = clock.now();
+        self.tick(net, now)?;
         Ok(())
     }
 

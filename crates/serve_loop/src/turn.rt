@@ -1,7 +1,7 @@
 // One turn, and turns.
 
 ghost use Rattle.std.specs.Prelude.{◌≡◌, ◌≤◌, ℕ, IfErr, OnOk};
-ghost use Rattle.serve_loop.specs.Fallen.{Fell, IsFallen};
+ghost use Rattle.serve_loop.specs.Fallen.{Fell, FellAt};
 ghost use Rattle.serve_loop.specs.Faults.{FromNet, FromNetOrSink, is_memory};
 ghost use Rattle.serve_loop.specs.Server.{OneTurn, Turned, running};
 
@@ -10,12 +10,12 @@ use crate::due::{due_links, due_slots};
 use crate::fault::turn_end;
 use crate::poll::Poll;
 use crate::server::Server;
-use core_events::Core;
+use core_events::EventCore;
 use px_bytes::Seq;
 use px_outside::{Clock, Net, Sink};
 
-impl<C: Core + Drop> Server<C> {
-    /// One turn: a Tick where time went on, one wait, each due listener and link in order, pairs of
+impl<C: EventCore + Drop> Server<C> {
+    /// One turn: one wait, a Tick where time went on, each due listener and link in order, pairs of
     /// a Run and a Turn, and what is pending; then the lines of the journal are written, also
     /// behind a fault.
     pub fn turn<N: Net, T: Clock, K: Sink>(
@@ -37,24 +37,29 @@ impl<C: Core + Drop> Server<C> {
         ensures clock_faults_never_fall { T.faults clock.old ≤ T.faults clock.new }
     {
         self.serving.journal.recording = journal.keeps();
-        let now = clock.now();
-        let done = self.round(net, now);
+        let done = self.round(net, clock);
         let written = self.serving.journal.flush(journal);
         turn_end(done, written)
     }
 
-    // One turn at this moment.
+    // What a turn does before its lines are written.
     #[tactic(auto, using(crate::proofs::Failing::from_later, crate::proofs::Failing::from_memory))]
-    pub(crate) fn round<N: Net>(&mut self, net: &mut N, now: u64) -> Result<(), ServeFault>
-        ensures turned { OnOk result
-            (Turned C.face N.did N.gave now self.old self.new net.old net.new) }
-        ensures fallen { IfErr result (λ why. IsFallen C.face N.did N.gave now self.old.slots
-            self.old.links (is_memory why) self.old.serving self.new.serving net.old net.new) }
+    pub(crate) fn round<N: Net, T: Clock>(
+        &mut self,
+        net: &mut N,
+        clock: &mut T,
+    ) -> Result<(), ServeFault>
+        ensures turned { OnOk result ((now : ℕ) × T.gave clock.old now clock.new
+            × Turned C.face N.did N.gave now self.old self.new net.old net.new) }
+        ensures fell { IfErr result (λ why. FellAt C.face N.did N.gave T.gave self.old.slots
+            self.old.links (is_memory why) self.old.serving self.new.serving net.old net.new
+            clock.old clock.new) }
         ensures fails { IfErr result (FromNet (N.faults net.old) (N.faults net.new)) }
         ensures faults_never_fall { N.faults net.old ≤ N.faults net.new }
+        ensures clock_faults_never_fall { T.faults clock.old ≤ T.faults clock.new }
     {
         self.serving
-            .wait_for_ready(net, now, &self.slots, &self.links, &mut self.listed)?;
+            .wait_and_tick(net, clock, &self.slots, &self.links, &mut self.listed)?;
         let alloc = self.serving.alloc;
         let slots = due_slots(alloc, &self.slots, &self.listed)?;
         let links = due_links(alloc, &self.links, &self.listed)?;

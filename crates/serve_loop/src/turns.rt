@@ -9,11 +9,11 @@ ghost use Rattle.serve_loop.specs.Turn.{CanAccept};
 
 use crate::server::Server;
 use crate::{ServeEnd, ServeFault};
-use core_events::Core;
+use core_events::EventCore;
 use px_outside::{Clock, Net, Sink};
 
 /// So many turns, and no more once as many connections were accepted as may be and all are over.
-pub fn serve<C: Core + Drop, N: Net, T: Clock, K: Sink>(
+pub fn serve<C: EventCore + Drop, N: Net, T: Clock, K: Sink>(
     server: &mut Server<C>,
     net: &mut N,
     clock: &mut T,

@@ -9,11 +9,11 @@ ghost use Rattle.serve_loop.specs.Faults.{FromNet, is_memory};
 use crate::polled::write_to_event;
 use crate::serving::Serving;
 use crate::{Polled, ServeFault};
-use core_events::Core;
+use core_events::EventCore;
 use px_bytes::Side;
 use px_outside::{Net, WriteAnswer};
 
-impl<C: Core + Drop> Serving<C> {
+impl<C: EventCore + Drop> Serving<C> {
     /// Writes what is pending to a side until its link takes no more by now, or nothing is pending.
     /// Says whether something may be pending still.
     #[tactic(auto, using(crate::proofs::Failing::from_later, crate::proofs::Failing::from_memory))]

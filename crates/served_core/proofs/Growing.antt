@@ -1,5 +1,5 @@
 -- What one event adds to the items of a connection, and to what its client took.
-use Rattle.std.proofs.Common.{◌≡◌, ◌⊎◌, ℕ, ◌+◌, ◌≤◌, List, [], ◌∷◌, ◌++◌, length, take, drop, Bool, true, false, None, nat_eq, if◌then◌else◌}
+use Rattle.std.proofs.Common.{◌≡◌, ◌⊎◌, ℕ, ◌+◌, ◌≤◌, List, [], ◌∷◌, ◌++◌, length, take, drop, Bool, true, false, Option, None, nat_eq, if◌then◌else◌}
 use Rattle.std.proofs.Common.{inl, inr, refl, ap, sym, ◌∙◌, subst, arith}
 use Rattle.std.specs.Bool.{MatchBool}
 use Rattle.std.specs.List.{flat_map}
@@ -26,6 +26,7 @@ use Rattle.proxy_core.specs.Represents.{Represents}
 use Rattle.proxy_core.specs.Scheduler.{State, Seen, seen}
 use Rattle.proxy_core.specs.Sound.{Served, unseen}
 use Rattle.proxy_core.specs.declared.call.Asked.{Asked}
+use Rattle.proxy_core.specs.declared.call.Asleep.{Asleep}
 use Rattle.run_config.specs.declared.config.Config.{Config}
 use Rattle.proxy_core.specs.declared.core_state.Core.{Core}
 use Rattle.proxy_core.proofs.Members.{eq_same, eq_self}
@@ -41,14 +42,14 @@ pub record Grows (old new : State) (c : ℕ) : Type 0 where
 stays : (old new : State) (c : ℕ) → new.places c ≡ old.places c → Grows old new c
 stays old new c e = record { more = []; place = e ∙ sym (append-nil (old.places c)) }
 
-ran_grows : (old new : State) (d : ℕ) (ring : List ℕ) (queue : List Asked) (more : List Item) (slices : ℕ) → new ≡ ran d ring queue more slices old → (c : ℕ)
+ran_grows : (old new : State) (d : ℕ) (ring : List ℕ) (queue : List Asked) (o : Option Asleep) (more : List Item) (slices : ℕ) → new ≡ ran d ring queue o more slices old → (c : ℕ)
     → (b : Bool) → nat_eq d c ≡ b → Grows old new c
-ran_grows old new d ring queue more slices e c true is = record {
+ran_grows old new d ring queue o more slices e c true is = record {
   more = more;
   place = ap (λ (y : State). y.places c) e ∙ ap (λ (b : Bool). if b then old.places d ++ more else old.places c) is
       ∙ ap (λ n. old.places n ++ more) (eq_same d c is);
 }
-ran_grows old new d ring queue more slices e c false is =
+ran_grows old new d ring queue o more slices e c false is =
     stays old new c (ap (λ (y : State). y.places c) e ∙ ap (λ (b : Bool). if b then old.places d ++ more else old.places c) is)
 
 pub come_stays : (C : Config) (input : Input) (before now : Heard) (d : ℕ) (group : List Note) (old new : State) (c : ℕ) → (b : Bool)
@@ -58,15 +59,15 @@ come_stays C input before now d group old new c true k = ap (λ (y : State). y.p
 come_stays C input before now d group old new c false (inl k) = ap (λ (y : State). y.places c) k.state
 come_stays C input before now d group old new c false (inr k) = ap (λ (y : State). y.places c) k.state
 
-front_grows : (C : Config) (h : Heard) (d : ℕ) (rest : List ℕ) (group : List Note) (old new : State) (c : ℕ) → (b : Bool)
-    → MatchBool b (RunsFailed h d rest group old new) (RunsOn C h d rest group old new ⊎ RunsOut C h d rest group old new) → Grows old new c
-front_grows C h d rest group old new c true k = stays old new c (ap (λ (y : State). y.places c) k.state)
-front_grows C h d rest group old new c false (inl k) = ran_grows old new d _ _ k.more _ k.state c (nat_eq d c) refl
-front_grows C h d rest group old new c false (inr k) = ran_grows old new d _ _ k.more _ k.state c (nat_eq d c) refl
+front_grows : (C : Config) (h : Heard) (moment d : ℕ) (rest : List ℕ) (group : List Note) (old new : State) (c : ℕ) → (b : Bool)
+    → MatchBool b (RunsFailed h d rest group old new) (RunsOn C h moment d rest group old new ⊎ RunsOut C h d rest group old new) → Grows old new c
+front_grows C h moment d rest group old new c true k = stays old new c (ap (λ (y : State). y.places c) k.state)
+front_grows C h moment d rest group old new c false (inl k) = ran_grows old new d _ _ _ k.more _ k.state c (nat_eq d c) refl
+front_grows C h moment d rest group old new c false (inr k) = ran_grows old new d _ _ _ k.more _ k.state c (nat_eq d c) refl
 
 ring_grows : (C : Config) (past : Past) (ring : List ℕ) (group : List Note) (old new : State) (c : ℕ) → MovesRing C past ring group old new → Grows old new c
 ring_grows C past [] group old new c k = stays old new c (ap (λ (y : State). y.places c) k.1)
-ring_grows C past (d ∷ rest) group old new c k = front_grows C (heard d past) d rest group old new c (heard d past).failed k
+ring_grows C past (d ∷ rest) group old new c k = front_grows C (heard d past) (shared past).moment d rest group old new c (heard d past).failed k
 
 queue_grows : (C : Config) (past : Past) (queue : List Asked) (group : List Note) (old new : State) (c : ℕ)
     → MovesQueue (store_of C past) (shared past).moment queue group old new → Grows old new c
@@ -77,7 +78,7 @@ pub grows : (C : Config) (past : Past) (v : EventKind) (group : List Note) (old 
 grows C past (Accepts d vs from) group old new m c = stays old new c (ap (λ (y : State). y.places c) m.state)
 grows C past (Comes d input) group old new m c =
     stays old new c (come_stays C input (heard d past) (hears d (heard d past) (Comes d input) group) d group old new c (heard d past).failed m)
-grows C past (Ticks moment) group old new m c = stays old new c (ap (λ (y : State). y.places c) m.1)
+grows C past (Ticks moment) group old new m c = stays old new c (ap (λ (y : State). y.places c) m.state)
 grows C past Turns group old new m c = queue_grows C past old.queue group old new c m
 grows C past Runs group old new m c = ring_grows C past old.ring group old new c m
 grows C past (Marks pool member up) group old new m c = stays old new c (ap (λ (y : State). y.places c) m.1)

@@ -211,7 +211,7 @@ last_heard c n h group there on_time =
 place_stays : (C : Config) (past : Past) (s next : State) (v : EventKind) (group : List Note) (c : ℕ) → MovesBy C past v group s next → (v ≡ Runs) ⊎ (next.places c ≡ s.places c)
 place_stays C past s next (Accepts d vs from) group c m = inr (ap (λ (y : State). y.places c) m.state)
 place_stays C past s next (Comes d i) group c m = inr (come_stays C i (heard d past) (hears d (heard d past) (Comes d i) group) d group s next c (heard d past).failed m)
-place_stays C past s next (Ticks moment) group c m = inr (ap (λ (y : State). y.places c) m.1)
+place_stays C past s next (Ticks moment) group c m = inr (ap (λ (y : State). y.places c) m.state)
 place_stays C past s next Turns group c m = inr (by_queue s.queue m)
   where
     by_queue : (queue : List Asked) → MovesQueue (store_of C past) (shared past).moment queue group s next → next.places c ≡ s.places c

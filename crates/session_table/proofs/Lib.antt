@@ -1,6 +1,7 @@
 pub mod Lives
 pub mod Counters
 pub mod Faults
+pub mod FewRows
 pub mod SortedKeys
 pub mod OnceKeys
 pub mod UnderKeys

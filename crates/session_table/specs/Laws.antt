@@ -97,3 +97,8 @@ abbrev pub LiveRowsStay : Type 0
 LiveRowsStay = (table : TableState) (moment : ℕ) (words : List (List ℕ))
     → AllPass (is_live moment) table.rows
     → AllPass (is_live moment) (live_after table moment words).rows
+
+-- no call leaves more rows than the table's limit, where there were no more
+abbrev pub RowsStayFew : Type 0
+RowsStayFew = (table : TableState) (moment : ℕ) (words : List (List ℕ))
+    → length table.rows ≤ table.limit → length (live_after table moment words).rows ≤ table.limit

@@ -3,6 +3,7 @@
 ghost use Rattle.session_table.specs.Laws.{CountersCount, FaultsChangeNothing, KeysAreAll};
 ghost use Rattle.session_table.specs.Laws.{KeysAreSorted, KeysStayOnce, LivesToDeadline};
 ghost use Rattle.session_table.specs.Laws.{LiveRowsStay, TouchNeverShortens};
+ghost use Rattle.session_table.specs.Laws.{RowsStayFew};
 
 /// The law that to touch a row never shortens its life.
 pub fn touch_never_shortens()
@@ -42,4 +43,9 @@ pub fn faults_change_nothing()
 /// The law that a call at a moment leaves live rows, where all were live.
 pub fn live_rows_stay()
     ensures { LiveRowsStay }
+{}
+
+/// The law that no call leaves more rows than the limit.
+pub fn rows_stay_few()
+    ensures { RowsStayFew }
 {}

@@ -1,3 +1,4 @@
 mod FirstPool
 mod Unmarked
 pub mod Living
+pub mod FewRows

@@ -1,9 +1,10 @@
 -- The shared calls, as lists of words: what each replies, and the store that it leaves.
-use Rattle.std.specs.Prelude.{ℕ, ◌/◌, List, [], ◌∷◌, codes, Option, Some, None}
+use Rattle.std.specs.Prelude.{ℕ, ◌/◌, ℤ, pos, List, [], ◌∷◌, codes, Option, Some, None}
 use Rattle.std.specs.Prelude.{option_map, option_and_then, if◌then◌else◌}
 use Rattle.std.specs.Fmt.{decimal}
 use Rattle.std.specs.Str.{bytes_eq}
 use Rattle.px_bytes.specs.Address.{addr_text}
+use Rattle.px_bytes.specs.Whole.{whole}
 use Rattle.px_bytes.specs.declared.addr.Addr.{Addr}
 use Rattle.px_bytes.specs.declared.fault.Reply.{Reply}
 use Rattle.px_bytes.specs.declared.fault.Reply.TheVariants.{Ok as Replied}
@@ -171,3 +172,17 @@ live_reply store moment (name ∷ words) = reply_by (call_of name) words moment 
 
 abbrev pub reply : StoreState → ℕ → List (List ℕ) → Answered
 reply store moment call = live_reply (at_moment moment store) moment call
+
+-- ---- how long a call sleeps before it is answered
+
+-- a whole number of milliseconds, where it isn't below 0
+abbrev pub milliseconds : Option ℤ → ℕ
+milliseconds (Some (pos n)) = n
+milliseconds other = 0
+
+-- `after MS` sleeps for MS milliseconds, MS being a whole number in any of its forms; no other call
+-- sleeps
+abbrev pub sleeps_for : List (List ℕ) → ℕ
+sleeps_for (name ∷ (word ∷ [])) =
+    if bytes_eq name (codes "after") then milliseconds (whole word) else 0
+sleeps_for words = 0

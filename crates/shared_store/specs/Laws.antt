@@ -1,8 +1,9 @@
 -- What holds of the store and its calls.
-use Rattle.std.specs.Prelude.{◌≡◌, ℕ, List}
+use Rattle.std.specs.Prelude.{◌≡◌, ◌≤◌, ℕ, List, length}
 use Rattle.std.specs.List.{AllPass}
 use Rattle.persistence.specs.Records as records
 use Rattle.session_table.specs.Rows as rows
+use Rattle.session_table.specs.Tables.{TableState}
 use Rattle.shared_store.specs.Calls.{live_reply}
 use Rattle.shared_store.specs.Store.{StoreState, at_moment}
 
@@ -23,3 +24,13 @@ LiveIsKept = (store : StoreState) (moment : ℕ) → StoreIsLive moment store
 abbrev pub LiveStoreStays : Type 0
 LiveStoreStays = (store : StoreState) (moment : ℕ) (call : List (List ℕ))
     → StoreIsLive moment store → StoreIsLive moment (live_reply store moment call).after
+
+-- a session table has this limit, and no more rows
+pub record FewRows (limit : ℕ) (table : TableState) : Type 0 where
+  pub same : table.limit ≡ limit
+  pub few : length table.rows ≤ limit
+
+-- no call leaves more
+abbrev pub RowsStayFew : Type 0
+RowsStayFew = (limit : ℕ) (store : StoreState) (moment : ℕ) (call : List (List ℕ))
+    → FewRows limit store.table → FewRows limit (live_reply store moment call).after.table

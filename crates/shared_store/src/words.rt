@@ -1,10 +1,10 @@
 // The words of calls.
 
 ghost use Rattle.std.specs.Prelude.{◌≡◌};
-ghost use Rattle.shared_store.specs.Calls.{call_of, wanted_by, wanted_of};
+ghost use Rattle.shared_store.specs.Calls.{call_of, milliseconds, sleeps_for, wanted_by, wanted_of};
 
 use pools::Wanted;
-use px_bytes::{Addr, Text};
+use px_bytes::{Addr, Text, read_whole};
 use tcl_encodings::addr_of;
 
 /// Which shared call a list of words is.
@@ -57,4 +57,25 @@ fn wanted_by(word: &[u8], addr: Option<Addr>) -> Option<Wanted>
         return Some(Wanted::Only(addr));
     }
     None
+}
+
+/// For how many milliseconds a call sleeps before it is answered: MS for `after MS`, 0 for any other.
+pub fn sleeps_for(call: &[Text]) -> u64
+    ensures { result ≡ sleeps_for call.now }
+{
+    match call {
+        [name, word] if name.as_bytes() == b"after".as_slice() => milliseconds(read_whole(
+            word.as_bytes(),
+        )),
+        _ => 0,
+    }
+}
+
+fn milliseconds(number: Option<i64>) -> u64
+    ensures { result ≡ milliseconds number }
+{
+    match number {
+        Some(number) => u64::try_from(number).unwrap_or(0),
+        None => 0,
+    }
 }

@@ -6,8 +6,8 @@ use Rattle.tcl_trees.proofs.PieceLists.{all_parts-of, all_words-of}
 use Rattle.tcl_trees.specs.Pieces.{all_parts, all_words, all_commands}
 use Rattle.tcl_expr.specs.ExpressionReading.{parts_of_word}
 use Rattle.tcl_words.proofs.Views.{word-parts, command-words, view-Bracket}
-use Rattle.tcl_words.specs.declared.script.Command as code_command
-use Rattle.tcl_words.specs.declared.script.Command.{out-Command}
+use Rattle.tcl_words.specs.declared.script.ScriptCommand as code_command
+use Rattle.tcl_words.specs.declared.script.ScriptCommand.{out-ScriptCommand}
 use Rattle.tcl_words.specs.declared.script.Part as code_part
 use Rattle.tcl_words.specs.declared.script.Part.{Bracket}
 use Rattle.tcl_words.specs.declared.script.Span.{Span}
@@ -158,14 +158,14 @@ module _ (level : Level) (base : ℕ) (s : Findings) where
       ∙ all_parts-of (map part_view (out-Word w).parts.items))
 
   -- the command, once it is known what it does
-  pub command_shaped : (c : code_command.Command) (ws : List code_word.Word) (h : Shape)
-      → ws ≡ (out-Command c).words.items → h ≡ shape_of (map word_view ws)
+  pub command_shaped : (c : code_command.ScriptCommand) (ws : List code_word.Word) (h : Shape)
+      → ws ≡ (out-ScriptCommand c).words.items → h ≡ shape_of (map word_view ws)
       → command_at level base (command_view c) s
-      ≡ shaped_at level base (out-Command c).span.start h (map word_view ws) s
+      ≡ shaped_at level base (out-ScriptCommand c).span.start h (map word_view ws) s
   command_shaped c ws h are is =
-      let at = (out-Command c).span.start in
+      let at = (out-ScriptCommand c).span.start in
       ap (λ x. command_at level base x s) (command-words c)
-      ∙ ap (λ l. words_at level base at l s) (all_words-of (map word_view (out-Command c).words.items))
+      ∙ ap (λ l. words_at level base at l s) (all_words-of (map word_view (out-ScriptCommand c).words.items))
       ∙ ap (λ l. words_at level base at (map word_view l) s) (sym are)
       ∙ ap (λ u. shaped_at level base at u (map word_view ws) s) (sym is)
 

@@ -7,7 +7,7 @@ use Rattle.std.proofs.lemmas.Option.{get_or_from_slice_get, slice_get-map, slice
 use Rattle.tcl_lists.specs.Element.{ListElement, value_of, place_of}
 use Rattle.tcl_lists.specs.Read.{elements, each, list_places, list_values}
 use Rattle.tcl_lists.specs.declared.fault.ListFault.{ListFault}
-use Rattle.tcl_lists.specs.declared.place.Place.{Place}
+use Rattle.tcl_lists.specs.declared.place.ElementPlace.{ElementPlace}
 use Rattle.tcl_trees.specs.CaseList.{item_from, item_of}
 use Rattle.tcl_trees.specs.declared.case_item.CaseItem.{CaseItem}
 
@@ -23,7 +23,7 @@ each_are : {T : Type 0} (view : ListElement → T) (r : Result (List ListElement
 each_are view (Ok es) ts e = cc
 each_are view (Err f) ts e = cc
 
-module _ (text : List ℕ) (at : ℕ) (p : Place) (v : List ℕ) where
+module _ (text : List ℕ) (at : ℕ) (p : ElementPlace) (v : List ℕ) where
   abbrev es : List ListElement
   es = elements_of text
 
@@ -46,7 +46,7 @@ module _ (text : List ℕ) (at : ℕ) (p : Place) (v : List ℕ) where
       ∙ ap (λ l. slice_get l at) (each_are view (elements text) ts are) ∙ there
 
   -- one element more
-  pub items_turn : (ps : List Place) (vs : List (List ℕ)) (done new : List CaseItem) (i : CaseItem)
+  pub items_turn : (ps : List ElementPlace) (vs : List (List ℕ)) (done new : List CaseItem) (i : CaseItem)
       → list_places text ≡ Ok ps → list_values text ≡ Ok vs → slice_get ps at ≡ Some p
       → slice_get vs at ≡ Some v → i ≡ item_from text p v → done ≡ map (item_of text) (take at es)
       → new ≡ done ++ i ∷ [] → new ≡ map (item_of text) (take (at + 1) es)

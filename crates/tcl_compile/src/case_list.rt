@@ -10,7 +10,7 @@ use crate::notes::nothing;
 use crate::places::place_in;
 use px_bytes::{M, Memory, Text};
 use std::alloc::Global;
-use tcl_lists::{ListFault, Place, places, split};
+use tcl_lists::{ElementPlace, ListFault, places, split};
 use tcl_trees::{CaseItem, Flaw, Node};
 use tcl_words::{Word, stands};
 
@@ -26,7 +26,7 @@ fn opener_of(text: &[u8], start: usize) -> usize
 }
 
 /// The element of the text at its place, with its value.
-fn item_from(text: &[u8], place: &Place, value: &Text) -> M<CaseItem>
+fn item_from(text: &[u8], place: &ElementPlace, value: &Text) -> M<CaseItem>
     ensures { IfOk result (λ item. item ≡ item_from text.now place.now value.now) }
 {
     Ok(CaseItem {

@@ -11,12 +11,18 @@ use crate::compiler::Compiler;
 use px_bytes::M;
 use std::alloc::Global;
 use tcl_trees::{Node, Shape, shape_of};
-use tcl_words::Command;
+use tcl_words::ScriptCommand;
 
 impl Compiler {
     /// A command.
     #[cycle(compiled)]
-    fn command(&mut self, alloc: Global, base: usize, command: &Command, levels: usize) -> M<Node>
+    fn command(
+        &mut self,
+        alloc: Global,
+        base: usize,
+        command: &ScriptCommand,
+        levels: usize,
+    ) -> M<Node>
         requires bounded { levels ≤ 101 }
         ensures { IfOk result (λ v. command_at (level levels) base (command_view command.now)
             self.old.findings ≡ (node_view v, self.new.findings)) }
@@ -41,7 +47,7 @@ impl Compiler {
         &mut self,
         alloc: Global,
         base: usize,
-        commands: &[Command],
+        commands: &[ScriptCommand],
         levels: usize,
     ) -> M<Node>
         requires bounded { levels ≤ 101 }

@@ -6,7 +6,7 @@ use Rattle.px_bytes.specs.White.{is_space}
 use Rattle.tcl_lists.specs.Escape.{replaced}
 use Rattle.tcl_lists.specs.declared.fault.ListFault.{ListFault}
 use Rattle.tcl_lists.specs.declared.fault.ListFault.TheVariants.{OpenBrace, OpenQuote, Extra}
-use Rattle.tcl_lists.specs.declared.place.Place.{Place}
+use Rattle.tcl_lists.specs.declared.place.ElementPlace.{ElementPlace}
 
 -- whether the next byte is behind a backslash, where `taken` says so of this one
 abbrev pub takes_next : Bool → ℕ → Bool
@@ -44,7 +44,7 @@ pub record ListElement : Type 0 where
 abbrev pub value_of : ListElement → List ℕ
 value_of e = if e.braced then e.raw else replaced e.raw
 
-abbrev pub place_of : ListElement → Place
+abbrev pub place_of : ListElement → ElementPlace
 place_of e = record { start = e.start; end = e.start + length e.raw; braced = e.braced }
 
 -- an element, and how many bytes behind its first it takes

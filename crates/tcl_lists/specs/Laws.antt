@@ -6,7 +6,7 @@ use Rattle.px_bytes.specs.White.{is_space}
 use Rattle.tcl_lists.specs.Element.{brace_len}
 use Rattle.tcl_lists.specs.Escape.{replaced}
 use Rattle.tcl_lists.specs.Read.{list_places, list_values}
-use Rattle.tcl_lists.specs.declared.place.Place.{Place}
+use Rattle.tcl_lists.specs.declared.place.ElementPlace.{ElementPlace}
 use Rattle.tcl_lists.specs.Write.{joined}
 use Rattle.tcl_lists.specs.declared.fault.ListFault.{ListFault}
 use Rattle.tcl_lists.specs.declared.fault.ListFault.TheVariants.{OpenBrace, OpenQuote, Extra}
@@ -42,12 +42,12 @@ abbrev pub WrittenListsJoin : Type 0
 WrittenListsJoin = (xs ys : List (List ℕ)) → list_values (joined xs ++ (32 ∷ joined ys)) ≡ Ok (xs ++ ys)
 
 -- the value of the element at a place of the text
-abbrev pub value_at : List ℕ → Place → List ℕ
+abbrev pub value_at : List ℕ → ElementPlace → List ℕ
 value_at text place = let raw = slice_range text place.start place.end in
     if place.braced then raw else replaced raw
 
 -- the values at places, or the same fault
-abbrev pub values_at : List ℕ → Result (List Place) ListFault → Result (List (List ℕ)) ListFault
+abbrev pub values_at : List ℕ → Result (List ElementPlace) ListFault → Result (List (List ℕ)) ListFault
 values_at text (Ok places) = Ok (map (value_at text) places)
 values_at text (Err fault) = Err fault
 

@@ -5,7 +5,7 @@ use Rattle.px_bytes.specs.White.{is_space}
 use Rattle.tcl_lists.specs.Element.{ListElement, Found, element, value_of, place_of}
 use Rattle.tcl_lists.specs.declared.fault.ListFault.{ListFault}
 use Rattle.tcl_lists.specs.declared.fault.ListFault.TheVariants.{Memory}
-use Rattle.tcl_lists.specs.declared.place.Place.{Place}
+use Rattle.tcl_lists.specs.declared.place.ElementPlace.{ElementPlace}
 
 -- an element before others
 abbrev pub with_first : ListElement → Result (List ListElement) ListFault → Result (List ListElement) ListFault
@@ -40,7 +40,7 @@ each view (Err fault) = Err fault
 abbrev pub list_values : List ℕ → Result (List (List ℕ)) ListFault
 list_values text = each value_of (elements text)
 
-abbrev pub list_places : List ℕ → Result (List Place) ListFault
+abbrev pub list_places : List ℕ → Result (List ElementPlace) ListFault
 list_places text = each place_of (elements text)
 
 -- what is due was answered, unless memory was refused

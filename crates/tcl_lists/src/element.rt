@@ -7,7 +7,7 @@ ghost use Rattle.tcl_lists.specs.Seen.{seen, seen_found, Gives};
 
 use crate::cut::{bare_len, brace_len, quote_len};
 use crate::value::replaced;
-use crate::{ListFault, Place};
+use crate::{ElementPlace, ListFault};
 use px_bytes::{M, Text, is_space};
 use std::alloc::Global;
 
@@ -31,11 +31,11 @@ pub(crate) fn value(alloc: Global, element: Element) -> M<Text>
 }
 
 /// Where the element stands.
-pub(crate) fn place(element: Element) -> Place
+pub(crate) fn place(element: Element) -> ElementPlace
     requires { element.start + length element.raw.now < 2 ^ 64 }
     ensures { result ≡ place_of (seen element.entry) }
 {
-    Place {
+    ElementPlace {
         start: element.start,
         end: element.start + element.raw.len(),
         braced: element.braced,

@@ -19,6 +19,6 @@ pub use laws::{
     braces_keep_bytes, places_hold_values, reads_exactly_lists, white_space_moves,
     written_lists_join, written_reads_back,
 };
-pub use place::{Place, Places};
+pub use place::{ElementPlace, ElementPlaces};
 pub use read::{places, split};
 pub use write::join_list;

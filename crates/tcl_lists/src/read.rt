@@ -5,7 +5,7 @@ ghost use Rattle.tcl_lists.specs.Read.{Answers, list_places, list_values};
 
 use crate::element::{place, value};
 use crate::rest::{Rest, next_element};
-use crate::{ListFault, Places};
+use crate::{ElementPlaces, ListFault};
 use px_bytes::Texts;
 use std::alloc::Global;
 
@@ -31,10 +31,10 @@ fn values(alloc: Global, text: &[u8]) -> Result<Texts, ListFault>
 
 /// Where a list's elements stand, or the fault of the first bad one: the same elements as `split`
 /// gives, and the same faults.
-pub fn places(alloc: Global, text: &[u8]) -> Result<Places, ListFault>
+pub fn places(alloc: Global, text: &[u8]) -> Result<ElementPlaces, ListFault>
     ensures { Answers (list_places text.now) result }
 {
-    let mut places = Places::new(alloc);
+    let mut places = ElementPlaces::new(alloc);
     let mut rest = Rest { text, at: 0 };
     while let Some(next) = next_element(rest)? {
         places.push(place(next.element))?;

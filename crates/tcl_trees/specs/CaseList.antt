@@ -4,7 +4,7 @@ use Rattle.std.specs.Prelude.{Option, Some, None, Result, Ok, Err, if◌then◌e
 use Rattle.std.specs.Str.{bytes_eq}
 use Rattle.tcl_lists.specs.Element.{ListElement, value_of, place_of}
 use Rattle.tcl_lists.specs.Read.{elements}
-use Rattle.tcl_lists.specs.declared.place.Place.{Place}
+use Rattle.tcl_lists.specs.declared.place.ElementPlace.{ElementPlace}
 use Rattle.tcl_lists.specs.declared.fault.ListFault.{ListFault}
 use Rattle.tcl_words.specs.Places.{stands}
 use Rattle.tcl_words.specs.Tree.{Word}
@@ -23,7 +23,7 @@ opener_of text start =
     if stands text (start - 1) 123 || stands text (start - 1) 34 then start - 1 else start
 
 -- an element of the text at its place, with its value
-abbrev pub item_from : List ℕ → Place → List ℕ → CaseItem
+abbrev pub item_from : List ℕ → ElementPlace → List ℕ → CaseItem
 item_from text place value = record {
   text = value;
   start = place.start;

@@ -12,7 +12,7 @@ use Rattle.tcl_words.specs.View.{part_view, word_view, command_view, parts_view,
 use Rattle.tcl_words.specs.View.{commands_of}
 use Rattle.tcl_words.specs.declared.places.Closer.{Closer}
 use Rattle.tcl_words.specs.declared.progress.Progress.{Progress}
-use Rattle.tcl_words.specs.declared.script.Command as code_command
+use Rattle.tcl_words.specs.declared.script.ScriptCommand as code_command
 use Rattle.tcl_words.specs.declared.script.Part as code
 use Rattle.tcl_words.specs.declared.script.Word as code_word
 use Rattle.tcl_words.proofs.Many.{ManyTo, many_begins, many_turn, many_ends}
@@ -43,16 +43,16 @@ push_word : (ws : List code_word.Word) (w : code_word.Word) (rest : Words)
 push_word [] w rest = refl
 push_word (v ∷ ws) w rest = ap (and_word (word_view v)) (push_word ws w rest)
 
-abbrev commands_before : List code_command.Command → Commands → Commands
+abbrev commands_before : List code_command.ScriptCommand → Commands → Commands
 commands_before [] rest = rest
 commands_before (c ∷ cs) rest = and_command (command_view c) (commands_before cs rest)
 
-all_commands : (cs : List code_command.Command)
+all_commands : (cs : List code_command.ScriptCommand)
     → commands_before cs no_commands ≡ commands_of (map command_view cs)
 all_commands [] = refl
 all_commands (c ∷ cs) = ap (and_command (command_view c)) (all_commands cs)
 
-push_command : (cs : List code_command.Command) (c : code_command.Command) (rest : Commands)
+push_command : (cs : List code_command.ScriptCommand) (c : code_command.ScriptCommand) (rest : Commands)
     → commands_before cs (and_command (command_view c) rest) ≡ commands_before (cs ++ c ∷ []) rest
 push_command [] c rest = refl
 push_command (b ∷ cs) c rest = ap (and_command (command_view b)) (push_command cs c rest)
@@ -117,7 +117,7 @@ words_end deeper inside text from s ws within ends so_far =
     within ends (all_words ws) so_far.holds
 
 -- the commands so far
-pub record CommandsTo (deeper : Level) (inside : Bool) (text : List ℕ) (from : Progress) (cs : List code_command.Command) (s : Progress) : Type 0 where
+pub record CommandsTo (deeper : Level) (inside : Bool) (text : List ℕ) (from : Progress) (cs : List code_command.ScriptCommand) (s : Progress) : Type 0 where
   pub holds : ManyTo (λ x. to (gap_end text x.at) x) (λ x. ends_script inside text x.at) (read_command deeper inside text) and_command no_commands text from (commands_before cs) s
 
 pub commands_begin : (deeper : Level) (inside : Bool) (text : List ℕ) (s : Progress)
@@ -126,7 +126,7 @@ commands_begin deeper inside text s = record {
   holds = many_begins _ _ _ _ _ text s (commands_before []) (λ b. refl);
 }
 
-pub commands_turn : (deeper : Level) (inside : Bool) (text : List ℕ) (from s s1 s2 : Progress) (cs : List code_command.Command) (c : code_command.Command)
+pub commands_turn : (deeper : Level) (inside : Bool) (text : List ℕ) (from s s1 s2 : Progress) (cs : List code_command.ScriptCommand) (c : code_command.ScriptCommand)
     → s.at ≤ length text → to (gap_end text s.at) s ≡ s1 → ends_script inside text s1.at ≡ false
     → read_command deeper inside text s1 ≡ (command_view c, s2) → s.at < s2.at
     → CommandsTo deeper inside text from cs s
@@ -138,7 +138,7 @@ commands_turn deeper inside text from s s1 s2 cs c within is1 going is on so_far
       (push_command cs c) so_far.holds;
 }
 
-pub commands_end : (deeper : Level) (inside : Bool) (text : List ℕ) (from s : Progress) (cs : List code_command.Command)
+pub commands_end : (deeper : Level) (inside : Bool) (text : List ℕ) (from s : Progress) (cs : List code_command.ScriptCommand)
     → s.at ≤ length text → ends_script inside text (gap_end text s.at) ≡ true
     → CommandsTo deeper inside text from cs s
     → commands deeper inside text from ≡ (commands_of (map command_view cs), s)

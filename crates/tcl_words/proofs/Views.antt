@@ -4,8 +4,8 @@ use Rattle.std.specs.declared.alloc.Global.{Global}
 use Rattle.tcl_words.specs.Tree.{plain, variable, element, bracket, word, command}
 use Rattle.tcl_words.specs.View.{script_view, command_view, word_view, part_view, commands_of}
 use Rattle.tcl_words.specs.View.{words_of, parts_of}
-use Rattle.tcl_words.specs.declared.script.Command as code_command
-use Rattle.tcl_words.specs.declared.script.Command.{out-Command, roll-Command}
+use Rattle.tcl_words.specs.declared.script.ScriptCommand as code_command
+use Rattle.tcl_words.specs.declared.script.ScriptCommand.{out-ScriptCommand, roll-ScriptCommand}
 use Rattle.tcl_words.specs.declared.script.Part as code
 use Rattle.tcl_words.specs.declared.script.Part.{Plain, Variable, Element, Bracket, the_lemmas}
 use Rattle.tcl_words.specs.declared.script.Script.{Script, out-Script, roll-Script}
@@ -13,14 +13,14 @@ use Rattle.tcl_words.specs.declared.script.Span.{Span}
 use Rattle.tcl_words.specs.declared.script.Word as code_word
 use Rattle.tcl_words.specs.declared.script.Word.{out-Word}
 
-pub view-Script : (v : Vec code_command.Command Global) → script_view (roll-Script (record { commands = v })) ≡ commands_of (map command_view v.items)
+pub view-Script : (v : Vec code_command.ScriptCommand Global) → script_view (roll-Script (record { commands = v })) ≡ commands_of (map command_view v.items)
 view-Script v = search (rules, the_lemmas)
 
 -- for the crates that go over a script
 pub script-commands : (s : Script) → script_view s ≡ commands_of (map command_view (out-Script s).commands.items)
 script-commands s = search (rules, the_lemmas)
 
-pub command-words : (c : code_command.Command) → command_view c ≡ command (out-Command c).span (words_of (map word_view (out-Command c).words.items))
+pub command-words : (c : code_command.ScriptCommand) → command_view c ≡ command (out-ScriptCommand c).span (words_of (map word_view (out-ScriptCommand c).words.items))
 command-words c = search (rules, the_lemmas)
 
 pub word-parts : (w : code_word.Word) → word_view w ≡ word (out-Word w).span (out-Word w).form (out-Word w).inner (out-Word w).raw (parts_of (map part_view (out-Word w).parts.items))
@@ -38,5 +38,5 @@ view-Element s name index = search (rules, the_lemmas)
 pub view-Bracket : (s : Span) (inside : Script) → part_view (Bracket s inside) ≡ bracket s (script_view inside)
 view-Bracket s inside = search (rules, the_lemmas)
 
-pub view-Command : (s : Span) (words : Vec code_word.Word Global) → command_view (roll-Command (record { span = s; words = words })) ≡ command s (words_of (map word_view words.items))
+pub view-Command : (s : Span) (words : Vec code_word.Word Global) → command_view (roll-ScriptCommand (record { span = s; words = words })) ≡ command s (words_of (map word_view words.items))
 view-Command s words = search (rules, the_lemmas)

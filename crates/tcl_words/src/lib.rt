@@ -20,4 +20,4 @@ pub use parse_fault::{Fault, ParseFault};
 pub use parser::{LIMIT, parse};
 pub use places::{after_blank, opens_name, skips_newline, stands, starts_variable};
 pub use progress::Progress;
-pub use script::{Command, Form, Part, Script, Span, Word};
+pub use script::{Form, Part, Script, ScriptCommand, Span, Word};

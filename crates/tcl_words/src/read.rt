@@ -15,7 +15,7 @@ use crate::places::{
     Closer, closes, ends_command, ends_script, opens_name, stands, starts_variable, word_closer,
 };
 use crate::progress::Progress;
-use crate::script::{Command, Form, Part, Script, Span, Word};
+use crate::script::{Form, Part, Script, ScriptCommand, Span, Word};
 use crate::skips::{blanks_end, gap_end, name_end};
 use px_bytes::{M, Text};
 use std::alloc::Global;
@@ -197,7 +197,7 @@ impl Progress {
                 start: next,
                 end: self.at,
             };
-            commands.push(Command { span, words })?;
+            commands.push(ScriptCommand { span, words })?;
         }
     }
 }

@@ -13,14 +13,14 @@ pub struct Span {
 #[cycle(script)]
 #[derive(Drop)]
 pub struct Script {
-    pub commands: Vec<Command>,
+    pub commands: Vec<ScriptCommand>,
 }
 
 /// Words in order, the first the command's name. The span goes from the first word's first byte to
 /// the last word's end.
 #[cycle(script)]
 #[derive(Drop)]
-pub struct Command {
+pub struct ScriptCommand {
     pub span: Span,
     pub words: Vec<Word>,
 }

@@ -28,9 +28,9 @@ abbrev pub moment_from : ℕ → List RunEntry → ℕ
 moment_from before [] = before
 moment_from before (x ∷ xs) = moment_from (moment_behind x before) xs
 
--- `CALL -notouch -subtable SUBTABLE KEY`
+-- `CALL -subtable SUBTABLE KEY`; that it touches the row shows in no reply at its own moment
 abbrev pub call_words : (call subtable key : List ℕ) → List (List ℕ)
-call_words call subtable key = call ∷ codes "-notouch" ∷ codes "-subtable" ∷ subtable ∷ key ∷ []
+call_words call subtable key = call ∷ codes "-subtable" ∷ subtable ∷ key ∷ []
 
 -- what is replied; a fault says nothing
 abbrev pub text_of : Reply → List ℕ

@@ -71,7 +71,7 @@ fn words_of(alloc: Global, words: &[&[u8]]) -> M<Texts>
 fn call_words(alloc: Global, call: &[u8], subtable: &[u8], key: &[u8]) -> M<Texts>
     ensures { IfOk result (λ words. words ≡ call_words call.now subtable.now key.now) }
 {
-    words_of(alloc, &[call, b"-notouch", b"-subtable", subtable, key])
+    words_of(alloc, &[call, b"-subtable", subtable, key])
 }
 
 // What a call on a row is replied at a moment; a fault says nothing.

@@ -7,7 +7,7 @@ ghost use Rattle.test_run.specs.Stand.{Gives, stand};
 
 use crate::known::{Amount, Meets};
 use crate::run::TestRun;
-use core_events::{Core, Event};
+use core_events::{Event, EventCore};
 use px_bytes::{Addr, M, Side, Text};
 use test_past::{ClientConn, conn_of};
 use test_text::{Deed, PeerDeed};
@@ -39,7 +39,7 @@ fn reset_event(side: Side, conn: u32) -> Event
     }
 }
 
-impl<C: Core + Drop> TestRun<C> {
+impl<C: EventCore + Drop> TestRun<C> {
     // A client comes to a virtual server.
     fn comes(&mut self, client: usize, from: Addr, to: &Text) -> M<bool>
         ensures { IfOk result (λ taken. IsTrue taken

@@ -10,7 +10,7 @@ ghost use Rattle.test_run.specs.Stand.{stand};
 
 use crate::known::{amount_of, meeting_of};
 use crate::run::TestRun;
-use core_events::Core;
+use core_events::EventCore;
 use px_bytes::{Addr, Side};
 use test_past::{ClientConn, RunEntry, asked_by, same_side};
 use test_text::Meeting;
@@ -86,7 +86,7 @@ fn take_count(
     }
 }
 
-impl<C: Core + Drop> TestRun<C> {
+impl<C: EventCore + Drop> TestRun<C> {
     /// What is due next by itself; None where all is at rest.
     pub(crate) fn due(&self) -> Option<Due>
         ensures some { IfSome result (IsDue C.face (stand self.now)) }

@@ -7,11 +7,11 @@ ghost use Rattle.test_run.specs.Stand.{Gives, Keeps, Takes, stand};
 use crate::event_copy::copy_event;
 use crate::run::TestRun;
 use crate::told::add_notes;
-use core_events::{Core, Event};
+use core_events::{Event, EventCore};
 use px_bytes::{M, Side, Text};
 use test_past::RunEntry;
 
-impl<C: Core + Drop> TestRun<C> {
+impl<C: EventCore + Drop> TestRun<C> {
     /// Gives an event to the core, and keeps it with what its notes tell. Says whether it was taken.
     pub(crate) fn give(&mut self, event: Event) -> M<bool>
         ensures { IfOk result (λ taken. IsTrue taken

@@ -9,7 +9,7 @@ use crate::deeds::from_event;
 use crate::known::SendingText;
 use crate::rest::{MoveEnd, made_if};
 use crate::run::TestRun;
-use core_events::Core;
+use core_events::EventCore;
 use px_bytes::{M, Side, Text};
 use test_past::{RunEnd, RunEntry, conn_of, finish_of};
 use test_plan::TestMove;
@@ -74,7 +74,7 @@ fn step_of(one: &TestMove, before: usize) -> usize {
     }
 }
 
-impl<C: Core + Drop> TestRun<C> {
+impl<C: EventCore + Drop> TestRun<C> {
     // Whether a piece isn't given any more: one of its text was, and its connection finishes.
     fn is_dropped(&self, sending: SendingText, conn: u32) -> bool
         ensures { result ≡ is_dropped sending conn (stand self.now) }

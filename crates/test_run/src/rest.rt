@@ -6,7 +6,7 @@ ghost use Rattle.test_run.specs.Stand.{stand};
 
 use crate::due::Due;
 use crate::run::TestRun;
-use core_events::{Core, Event};
+use core_events::{Event, EventCore};
 use px_bytes::M;
 use test_past::RunEntry;
 
@@ -33,7 +33,7 @@ pub(crate) fn made_if(taken: bool) -> MoveEnd
     }
 }
 
-impl<C: Core + Drop> TestRun<C> {
+impl<C: EventCore + Drop> TestRun<C> {
     fn answer_conn(&mut self, conn: u32, made: bool) -> M<bool>
         ensures { IfOk result (λ taken. IsTrue taken
             → Answering C.face conn made (stand self.old) (stand self.new)) }

@@ -10,7 +10,7 @@ use Rattle.tcl_encodings.specs.Addresses.{address_of}
 use Rattle.tcl_trees.specs.Pieces.{all_words}
 use Rattle.tcl_words.specs.Tree.{Command, command, Part, plain, Parts, no_parts, and_part, Word, word}
 use Rattle.tcl_words.specs.View.{command_view, word_view}
-use Rattle.tcl_words.specs.declared.script.Command as code_command
+use Rattle.tcl_words.specs.declared.script.ScriptCommand as code_command
 use Rattle.tcl_words.specs.declared.script.Form.TheVariants.{Bare, Braced}
 use Rattle.tcl_words.specs.declared.script.Span.{Span}
 use Rattle.test_text.specs.Faults.{fault_at, with_value}
@@ -26,7 +26,7 @@ pub record Line : Type 0 where
 abbrev pub line_of : Command → Line
 line_of (command span words) = record { words = all_words words; end = span.end }
 
-abbrev pub command_line : code_command.Command → Line
+abbrev pub command_line : code_command.ScriptCommand → Line
 command_line c = line_of (command_view c)
 
 abbrev pub line_view : code.Line → Line

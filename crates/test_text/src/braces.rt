@@ -15,11 +15,11 @@ use crate::line::Line;
 use crate::names::client_in;
 use px_bytes::{M, Seq, Texts};
 use std::alloc::Global;
-use tcl_words::{Command, Fault, LIMIT, Progress, Script, Span};
+use tcl_words::{Fault, LIMIT, Progress, Script, ScriptCommand, Span};
 
 impl<'a> Line<'a> {
     /// The line that a command is.
-    pub(crate) fn of(command: &'a Command) -> Line<'a>
+    pub(crate) fn of(command: &'a ScriptCommand) -> Line<'a>
         ensures { line_view result ≡ line_of (command_view command.now) }
     {
         Line {
@@ -55,7 +55,7 @@ pub(crate) fn commands_in(
     alloc: Global,
     text: &[u8],
     span: Span,
-) -> M<(Vec<Command>, Option<Fault>)>
+) -> M<(Vec<ScriptCommand>, Option<Fault>)>
     ensures { IfOk result (λ r. lines_in text.now span
         ≡ (map command_line r.0.items, r.1)) }
 {
@@ -112,7 +112,11 @@ fn clients_on(alloc: Global, line: Line<'_>, clients: &Texts) -> Result<Seq<usiz
 }
 
 // The clients whose names stand in one of the lines.
-fn clients_of(alloc: Global, commands: &[Command], clients: &Texts) -> Result<Seq<usize>, Stopped>
+fn clients_of(
+    alloc: Global,
+    commands: &[ScriptCommand],
+    clients: &Texts,
+) -> Result<Seq<usize>, Stopped>
     ensures { Gives result (clients_of clients.now (map command_line commands.now)) }
 {
     match commands {

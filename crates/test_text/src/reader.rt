@@ -16,7 +16,7 @@ use crate::steps::steps;
 use crate::test_file::{PlacedStep, TestCase, TestFile};
 use px_bytes::{Seq, Texts};
 use std::alloc::Global;
-use tcl_words::{Command, Span};
+use tcl_words::{ScriptCommand, Span};
 
 // The steps in the braces of a test, and its clients.
 fn steps_in(
@@ -93,7 +93,7 @@ impl TestFile {
 }
 
 // The configurations and tests that the lines are.
-fn file(alloc: Global, text: &[u8], commands: &[Command]) -> Result<TestFile, Stopped>
+fn file(alloc: Global, text: &[u8], commands: &[ScriptCommand]) -> Result<TestFile, Stopped>
     ensures { Gives result
         (read_all (with_line text.now) no_tests (map command_line commands.now)) }
 {

@@ -14,12 +14,12 @@ use crate::line::Line;
 use crate::test_file::{PlacedDeed, PlacedStep, TestStep};
 use px_bytes::{Seq, Texts};
 use std::alloc::Global;
-use tcl_words::{Command, Span};
+use tcl_words::{ScriptCommand, Span};
 
 // What is done by the lines, behind these clients.
 fn deeds(
     alloc: Global,
-    commands: &[Command],
+    commands: &[ScriptCommand],
     clients: &mut Texts,
 ) -> Result<Seq<PlacedDeed>, Stopped>
     ensures { GivesBehind result clients.new
@@ -89,7 +89,7 @@ fn step(
 pub(crate) fn steps(
     alloc: Global,
     text: &[u8],
-    commands: &[Command],
+    commands: &[ScriptCommand],
     clients: &mut Texts,
 ) -> Result<Seq<PlacedStep>, Stopped>
     ensures { GivesBehind result clients.new

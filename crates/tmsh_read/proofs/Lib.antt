@@ -1,7 +1,15 @@
 pub mod Arrays
+pub mod BlockKinds
 pub mod Filling
 pub mod FirstFaulty
+pub mod GapKinds
 pub mod GoesOn
+pub mod ItemKinds
 pub mod Members
+pub mod NextKinds
 pub mod Numbers
 pub mod OneReading
+pub mod QuoteKinds
+pub mod ReaderTypes
+pub mod SectionKinds
+pub mod TokenKinds

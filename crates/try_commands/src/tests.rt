@@ -5,6 +5,7 @@
 mod made;
 mod offline;
 mod peers;
+mod quiet;
 mod requests;
 mod served;
 mod texts;

@@ -235,7 +235,7 @@ impl Served {
     }
 }
 
-fn net(alloc: Global, row: &Row) -> M<MemNet> {
+pub(super) fn net(alloc: Global, row: &Row) -> M<MemNet> {
     let fails = NetFails {
         listen: Counts::new(alloc),
         wait: calls(alloc, row.fails.wait)?,

@@ -10,7 +10,7 @@ loop-slot-init g c =
 
 pub loop-slot-preserved : goal.loop-slot-preserved
 loop-slot-preserved g c = (
-  listens_next g.C.Core.face g.N.Net.did c.args.core.now c.loop-slot.slot c.args.net.now c.loop-slot.net c.listen_at.new.net
+  listens_next g.C.EventCore.face g.N.Net.did c.args.core.now c.loop-slot.slot c.args.net.now c.loop-slot.net c.listen_at.new.net
       c.loop-slot.invariant.0 c.in_ok-listen_at.ensures.listens,
   omega (arith, c.loop-slot.invariant.1, c.listen_at.ensures.faults_never_fall),
 )
@@ -20,7 +20,7 @@ returns-clause-listens g c =
     let all : c.loop-slot.slot ≡ c.slots-slot-end.result = omega arith in (
       c.slots-slot-end.result,
       c.slots-slot-end.ensures,
-      subst (λ (n : ℕ). ListensAll g.C.Core.face g.N.Net.did c.args.core.now n c.args.net.now c.loop-slot.net) all c.loop-slot.invariant.0,
+      subst (λ (n : ℕ). ListensAll g.C.EventCore.face g.N.Net.did c.args.core.now n c.args.net.now c.loop-slot.net) all c.loop-slot.invariant.0,
     )
 
 pub returns-in_err-listen_at-clause-broke : goal.returns-in_err-listen_at-clause-broke

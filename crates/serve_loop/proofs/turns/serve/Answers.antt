@@ -12,7 +12,7 @@ loop-turn-init g c = (refl, (tt, (omega arith, omega arith)))
 
 pub loop-turn-preserved : goal.loop-turn-preserved
 loop-turn-preserved g c =
-    let face = g.C.Core.face in
+    let face = g.C.EventCore.face in
     let old = running c.args.server.now c.args.net.now c.args.clock.now (g.K.Sink.written c.args.journal.now) in
     let mid = running c.loop-turn.server c.loop-turn.net c.loop-turn.clock (g.K.Sink.written c.loop-turn.journal) in
     let new = running c.turn.new.self c.turn.new.net c.turn.new.clock (g.K.Sink.written c.turn.new.journal) in
@@ -32,7 +32,7 @@ pub returns-then-is_over-clause-served : goal.returns-then-is_over-clause-served
 returns-then-is_over-clause-served g c =
     let within : c.loop-turn.turn + 1 ≤ c.args.turns = omega arith in
     let some : 0 < c.loop-turn.turn + 1 = omega arith in
-    let face = g.C.Core.face in
+    let face = g.C.EventCore.face in
     let old = running c.args.server.now c.args.net.now c.args.clock.now (g.K.Sink.written c.args.journal.now) in
     let mid = running c.loop-turn.server c.loop-turn.net c.loop-turn.clock (g.K.Sink.written c.loop-turn.journal) in
     let new = running c.turn.new.self c.turn.new.net c.turn.new.clock (g.K.Sink.written c.turn.new.journal) in
@@ -54,8 +54,8 @@ returns-clause-served g c =
     record {
       made = c.loop-turn.turn;
       turned = c.loop-turn.invariant.0;
-      walked = turns_walk g.C.Core.face g.N.Net.did g.N.Net.gave g.T.Clock.gave c.loop-turn.turn old mid c.loop-turn.invariant.0;
-      asks_pending = turns_ask g.C.Core.face g.N.Net.did g.N.Net.gave g.T.Clock.gave c.loop-turn.turn old mid c.loop-turn.invariant.0;
+      walked = turns_walk g.C.EventCore.face g.N.Net.did g.N.Net.gave g.T.Clock.gave c.loop-turn.turn old mid c.loop-turn.invariant.0;
+      asks_pending = turns_ask g.C.EventCore.face g.N.Net.did g.N.Net.gave g.T.Clock.gave c.loop-turn.turn old mid c.loop-turn.invariant.0;
       ends = (all, c.loop-turn.invariant.1.0);
     }
 
@@ -65,7 +65,7 @@ returns-in_err-turn-clause-stopped g c =
     let old = running c.args.server.now c.args.net.now c.args.clock.now (g.K.Sink.written c.args.journal.now) in
     let mid = running c.loop-turn.server c.loop-turn.net c.loop-turn.clock (g.K.Sink.written c.loop-turn.journal) in
     let new = running c.turn.new.self c.turn.new.net c.turn.new.clock (g.K.Sink.written c.turn.new.journal) in
-    let walked = turns_walk g.C.Core.face g.N.Net.did g.N.Net.gave g.T.Clock.gave c.loop-turn.turn old mid c.loop-turn.invariant.0 in
+    let walked = turns_walk g.C.EventCore.face g.N.Net.did g.N.Net.gave g.T.Clock.gave c.loop-turn.turn old mid c.loop-turn.invariant.0 in
     at_fault _ c.from_residual.result why c.from_residual.ensures.1 (record {
       made = c.loop-turn.turn;
       fewer = c.loop-turn-test.true;
@@ -73,7 +73,7 @@ returns-in_err-turn-clause-stopped g c =
       turned = c.loop-turn.invariant.0;
       behind = c.loop-turn.invariant.1.0;
       walked = walked;
-      asks_pending = turns_ask g.C.Core.face g.N.Net.did g.N.Net.gave g.T.Clock.gave c.loop-turn.turn old mid c.loop-turn.invariant.0;
+      asks_pending = turns_ask g.C.EventCore.face g.N.Net.did g.N.Net.gave g.T.Clock.gave c.loop-turn.turn old mid c.loop-turn.invariant.0;
       fell = c.in_err-turn.ensures.fell;
-      all = walked_some g.C.Core.face g.N.Net.did g.N.Net.gave why old mid new walked (λ s none. (c.in_err-turn.ensures.fell.turn s none).done);
+      all = walked_some g.C.EventCore.face g.N.Net.did g.N.Net.gave why old mid new walked (λ s none. (c.in_err-turn.ensures.fell.turn s none).done);
     })

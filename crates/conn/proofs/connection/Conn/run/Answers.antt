@@ -1,8 +1,11 @@
-use Rattle.std.proofs.Common.{◌≡◌, ◌+◌, ◌-◌, inl, inr, sym, ap, subst, ℕ, [], ◌∷◌, ◌++◌, length, arith}
+use Rattle.std.proofs.Common.{◌≡◌, ◌+◌, ◌-◌, ◌∙◌, true, true≢false, inl, inr, sym, ap, subst, ℕ, List, [], ◌∷◌, ◌++◌, length, arith}
+use Rattle.core_events.specs.declared.note.Note.{Note}
 use Rattle.core_events.specs.declared.note.Note.TheVariants.{Finish}
 use Rattle.core_events.specs.declared.note.Cause.TheVariants.{Memory}
 use Rattle.conn.specs.Acted.{Acted}
-use Rattle.conn.specs.Runs.{DropsQueued, IsWhole}
+use Rattle.conn.specs.Runs.{DropsQueued, IsWhole, Rested}
+use Rattle.conn.specs.RunsItems.{asks}
+use Rattle.conn.specs.declared.connection.Conn.{Conn}
 use Rattle.conn.specs.declared.turn.Act.TheVariants as done
 use Rattle.conn.specs.declared.turn.ConnTurn.{ConnTurn}
 use Rattle.conn.specs.declared.turn.ConnTurn.TheVariants as turn
@@ -140,3 +143,30 @@ returns-in-Ok-Rests-clause-few_notes g c =
     let same = ap length (rests_quiet c.args.setup.now c.args.number c.loop-moved.self c.advance.new.self c.loop-moved.notes.items c.advance.new.notes.items (c.advance.new.steps - c.loop-moved.steps) acted) in
     let few = rested_few c.args.number c.advance.new.self c.comes_to_rest.new.self c.advance.new.notes.items c.comes_to_rest.new.notes.items c.comes_to_rest.result c.comes_to_rest.ensures.rested in
     omega (arith, same, few, c.len-given.ensures, c.len.ensures, c.if-len-given-ge-MOST_NOTES.false)
+
+-- ---- where it stops at a call there is room for one note more
+
+-- at a rest it stops at none
+rested_asks : (c : ℕ) (old new : Conn) (before after : List Note) (t : ConnTurn) → Rested c old new before after t → asks t ≡ true → ⊥
+rested_asks c old new before after turn.More r e = r
+rested_asks c old new before after (turn.Asks call) r e = r
+rested_asks c old new before after turn.NotYet r e = true≢false (sym e)
+rested_asks c old new before after turn.Over r e = true≢false (sym e)
+
+over_asks : (t : ConnTurn) → t ≡ turn.Over → asks t ≡ true → ⊥
+over_asks t is e = true≢false (sym e ∙ ap asks is)
+
+pub returns-in-OutOfMemory-clause-few_asked : goal.returns-in-OutOfMemory-clause-few_asked
+returns-in-OutOfMemory-clause-few_asked g c e = absurd (over_asks c.drop_queued.result c.drop_queued.ensures.over e)
+
+pub returns-in-Err-clause-few_asked : goal.returns-in-Err-clause-few_asked
+returns-in-Err-clause-few_asked g c e = absurd (over_asks c.fail.result c.fail.ensures.over e)
+
+pub returns-in-Ok-Rests-clause-few_asked : goal.returns-in-Ok-Rests-clause-few_asked
+returns-in-Ok-Rests-clause-few_asked g c e =
+    absurd (rested_asks c.args.number c.advance.new.self c.comes_to_rest.new.self c.advance.new.notes.items c.comes_to_rest.new.notes.items c.comes_to_rest.result c.comes_to_rest.ensures.rested e)
+
+pub returns-in-Ok-Asks-clause-few_asked : goal.returns-in-Ok-Asks-clause-few_asked
+returns-in-Ok-Asks-clause-few_asked g c e =
+    let room = c.loop-moved.invariant.2 in
+    (omega (arith, room, c.advance.ensures.room, c.advance.ensures.spare, c.len-given.ensures, c.len.ensures, c.if-len-given-ge-MOST_NOTES.false), omega (arith, room, c.advance.ensures.room, c.advance.ensures.spare, c.len-given.ensures, c.len.ensures, c.if-len-given-ge-MOST_NOTES.false))

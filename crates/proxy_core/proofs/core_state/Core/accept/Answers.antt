@@ -35,6 +35,7 @@ returns-clause-accepts c =
         live = c.push.ensures.items ∙ ap (λ e. c.args.self.now.live.items ++ record { number = c.args.number; vs = c.in-Some.place; from = c.args.from; conn = c.begin-conn.result; edges = e } ∷ []) c.accepted.ensures;
         ring = c.push.ensures.ring;
         queue = refl;
+        asleep = refl;
         store = refl;
       },
     )

@@ -1,8 +1,8 @@
 use Rattle.std.proofs.Common.{◌≡◌, ◌∙◌, ap, arith, false, get_or, refl, set, sym, true}
-use Rattle.proxy_core.specs.Calls.{kept_calls, without_calls, woken}
+use Rattle.proxy_core.specs.Calls.{kept_calls, kept_sleepers, without_calls, without_sleepers, woken}
 use Rattle.proxy_core.specs.Live.{asks_in}
 use Rattle.proxy_core.specs.Ready.{without}
-use Rattle.proxy_core.proofs.FrontRuns.{kept_same}
+use Rattle.proxy_core.proofs.FrontRuns.{kept_same, same_sleepers}
 use Rattle.proxy_core.proofs.Places.{number_at, number_in, read_again, read_set, remove_set, live_there}
 use Rattle.proxy_core.specs.Refusal.{input_refusal}
 use Rattle.proxy_core.proofs.Refusing.{input_judged, may_come}
@@ -98,6 +98,7 @@ returns-then-comes-clause-comes c =
           live = c.remove.ensures.items ∙ remove_set at s.live.items c.comes.new.self;
           ring = c.remove.ensures.ring ∙ ap (λ n. without n s.live.ring) (number_in at s.live.numbers s.live.items l s.numbered h);
           queue = refl;
+          asleep = refl;
         };
       },
     )
@@ -115,6 +116,8 @@ returns-else-comes-clause-comes c =
     let waited_is : c.is_asking-waited.result ≡ asks_in l.conn = c.is_asking-waited.ensures ∙ ap (λ x. asks_in x.conn) (read_again s.live.items at c.index-2.result.now l c.index-2.ensures h) in
     let kept : c.forget.new.self.items ≡ kept_calls (asks_in l.conn) (asks_in m.conn) c.args.number s.queue.items =
     c.forget.ensures.items ∙ ap (λ b. kept_calls b c.is_asking-waits.result c.args.number s.queue.items) waited_is ∙ ap (λ b. kept_calls (asks_in l.conn) b c.args.number s.queue.items) waits_is in
+    let kept_asleep : c.forget.new.self.asleep ≡ kept_sleepers (asks_in l.conn) (asks_in m.conn) c.args.number s.queue.asleep =
+    c.forget.ensures.asleep ∙ ap (λ b. kept_sleepers b c.is_asking-waits.result c.args.number s.queue.asleep) waited_is ∙ ap (λ b. kept_sleepers (asks_in l.conn) b c.args.number s.queue.asleep) waits_is in
     let came = c.comes.ensures.comes in (
       came.0,
       came.1,
@@ -136,8 +139,11 @@ returns-else-comes-clause-comes c =
         goes_on = λ e. record {
           live = c.wake.ensures.items;
           ring = c.wake.ensures.ring ∙ ap (λ b. woken b (get_or s.live.numbers at 0) s.live.ring) waits_is ∙ ap (λ n. woken (asks_in m.conn) n s.live.ring) (number_in at s.live.numbers s.live.items l s.numbered h ∙ sym c.comes.ensures.place.number);
-          waits = λ f. kept ∙ kept_same (asks_in l.conn) (asks_in m.conn) c.args.number s.queue.items f;
-          forgets = λ f g. kept ∙ ap (λ b. kept_calls b (asks_in m.conn) c.args.number s.queue.items) g ∙ ap (λ b. kept_calls true b c.args.number s.queue.items) f ∙ ap (λ n. without_calls n s.queue.items) (sym (c.comes.ensures.place.number ∙ number));
+          waits = λ f. (kept ∙ kept_same (asks_in l.conn) (asks_in m.conn) c.args.number s.queue.items f, kept_asleep ∙ same_sleepers (asks_in l.conn) (asks_in m.conn) c.args.number s.queue.asleep f);
+          forgets = λ f g. (
+            kept ∙ ap (λ b. kept_calls b (asks_in m.conn) c.args.number s.queue.items) g ∙ ap (λ b. kept_calls true b c.args.number s.queue.items) f ∙ ap (λ n. without_calls n s.queue.items) (sym (c.comes.ensures.place.number ∙ number)),
+            kept_asleep ∙ ap (λ b. kept_sleepers b (asks_in m.conn) c.args.number s.queue.asleep) g ∙ ap (λ b. kept_sleepers true b c.args.number s.queue.asleep) f ∙ ap (λ n. without_sleepers n s.queue.asleep) (sym (c.comes.ensures.place.number ∙ number)),
+          );
         };
         ends = λ e. let t : true ≡ false = sym e ∙ c.if-comes.false in (cc);
       },

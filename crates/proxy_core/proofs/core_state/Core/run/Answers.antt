@@ -1,6 +1,7 @@
-use Rattle.std.proofs.Common.{◌≡◌, ◌∙◌, ℕ, ◌<◌, [], ap, append-nil, arith, false, get_or, length, refl, remove, set, subst, sym, true}
+use Rattle.std.proofs.Common.{◌≡◌, ◌∙◌, ℕ, ◌+◌, ◌<◌, ◌≤◌, [], ◌++◌, ap, append-nil, append_assoc, arith, Bool, false, get_or, if◌then◌else◌, length, refl, remove, set, subst, sym, true}
+use Rattle.conn.specs.RunsItems.{asks}
 use Rattle.number_table.proofs.Ring.{without_missing}
-use Rattle.proxy_core.specs.Calls.{queue_behind}
+use Rattle.proxy_core.specs.Calls.{queue_behind, sleep_note, sleepers_behind}
 use Rattle.proxy_core.specs.Ready.{ring_behind, without}
 use Rattle.proxy_core.specs.Serving.{IsSetup}
 use Rattle.proxy_core.proofs.FrontRuns.{behind_over, front_runs, given_is, idle_runs}
@@ -116,13 +117,19 @@ returns-then-put_behind-clause-runs g c =
     let told' = ap (λ x. get_or x at 0) ns ∙ number_in at s.live.numbers ls l s.numbered h ∙ n in
     let read = rw i at c.index-2.ensures in
     let same_number = ap (λ x. x.number) (read_again ls at c.index-2.result.now l read h) ∙ n in
-    let queue_is : length s.queue.items < s.config.connections → c.put_behind.new.queue.items ≡ queue_behind c.run-turn.result number s.queue.items = λ few. c.put_behind.ensures.queue (omega (arith, few, s.queue_room)) ∙ ap (λ m. queue_behind c.run-turn.result m s.queue.items) same_number in
+    let room : length s.queue.items + length s.queue.asleep < s.config.connections → length s.queue.items < s.queue.room = λ few. omega (arith, few, s.queue_room) in
+    let sleep_room : length s.queue.items + length s.queue.asleep < s.config.connections → length s.queue.asleep < s.queue.room = λ few. omega (arith, few, s.queue_room) in
+    let queue_is : length s.queue.items + length s.queue.asleep < s.config.connections → c.put_behind.new.queue.items ≡ queue_behind c.run-turn.result number s.queue.items = λ few. c.put_behind.ensures.queue (room few) ∙ ap (λ m. queue_behind c.run-turn.result m s.queue.items) same_number in
+    let asleep_is : length s.queue.items + length s.queue.asleep < s.config.connections → c.put_behind.new.queue.asleep ≡ sleepers_behind c.run-turn.result number s.moment s.queue.asleep = λ few. c.put_behind.ensures.asleep (sleep_room few) ∙ ap (λ m. sleepers_behind c.run-turn.result m s.moment s.queue.asleep) same_number in
+    let mine = c.run-turn.ensures.runs.0 in
+    let told = mine ++ sleep_note c.run-turn.result c.index-2.result.now.number s.moment in
+    let noted = c.note_sleep.ensures.told ∙ ap (λ ns. ns ++ sleep_note c.run-turn.result c.index-2.result.now.number s.moment) c.run-turn.ensures.runs.1 ∙ append_assoc c.args.notes.now.items mine (sleep_note c.run-turn.result c.index-2.result.now.number s.moment) in
     let over = sym c.put_behind.ensures.over ∙ c.if-put_behind.true in
     let left = ring ∙ behind_over c.run-turn.result number rest over in
     let gone_ring = c.remove.ensures.ring ∙ ap (λ x. without x c.put_behind.new.live.ring) told' ∙ ap (without number) left ∙ without_missing number rest p.once ∙ sym (behind_over c.run-turn.result number rest over) in (
-      c.run-turn.ensures.runs.0,
-      c.run-turn.ensures.runs.1,
-      front_runs _ _ s.live.ring rest number c.run-turn.ensures.runs.0 _ p.ring (record {
+      told,
+      noted,
+      front_runs _ _ s.live.ring rest number told _ p.ring (record {
         keeps = record { config = refl; statics = refl; places = refl };
         last = refl;
         moment = refl;
@@ -135,13 +142,16 @@ returns-then-put_behind-clause-runs g c =
         same = c.run-turn.ensures.same;
         setup = c.setup_at-setup.result;
         setup_is = subst P (ap (λ x. x.vs) same) c.setup_at-setup.ensures;
-        edges = c.run-turn.ensures.runs.3;
         turn = c.run-turn.result;
+        told = mine;
+        notes = ap (λ m. mine ++ sleep_note c.run-turn.result m s.moment) same_number;
+        edges = c.run-turn.ensures.runs.3;
         runs = rw n at c.run-turn.ensures.runs.2;
         whole = given_is _ _ c.run-turn.ensures.runs.0 c.run-turn.result _ c.run-turn.ensures.runs.1 c.run-turn.ensures.slice;
         bounded = omega (arith, c.run-turn.ensures.bounded);
         ring = gone_ring;
         queue = λ few. queue_is few;
+        asleep = λ few. asleep_is few;
         goes_on = λ f. let t : true ≡ false = sym over ∙ f in (cc);
         over = λ f. c.remove.ensures.items ∙ ap (λ x. remove x at) items ∙ remove_set at ls m;
       }),
@@ -170,11 +180,17 @@ returns-else-put_behind-clause-runs g c =
     let ring = c.put_behind.ensures.ring ∙ ap (λ x. ring_behind c.run-turn.result x rest) told in
     let read = rw i at c.index-2.ensures in
     let same_number = ap (λ x. x.number) (read_again ls at c.index-2.result.now l read h) ∙ n in
-    let queue_is : length s.queue.items < s.config.connections → c.put_behind.new.queue.items ≡ queue_behind c.run-turn.result number s.queue.items = λ few. c.put_behind.ensures.queue (omega (arith, few, s.queue_room)) ∙ ap (λ m. queue_behind c.run-turn.result m s.queue.items) same_number in
+    let room : length s.queue.items + length s.queue.asleep < s.config.connections → length s.queue.items < s.queue.room = λ few. omega (arith, few, s.queue_room) in
+    let sleep_room : length s.queue.items + length s.queue.asleep < s.config.connections → length s.queue.asleep < s.queue.room = λ few. omega (arith, few, s.queue_room) in
+    let queue_is : length s.queue.items + length s.queue.asleep < s.config.connections → c.put_behind.new.queue.items ≡ queue_behind c.run-turn.result number s.queue.items = λ few. c.put_behind.ensures.queue (room few) ∙ ap (λ m. queue_behind c.run-turn.result m s.queue.items) same_number in
+    let asleep_is : length s.queue.items + length s.queue.asleep < s.config.connections → c.put_behind.new.queue.asleep ≡ sleepers_behind c.run-turn.result number s.moment s.queue.asleep = λ few. c.put_behind.ensures.asleep (sleep_room few) ∙ ap (λ m. sleepers_behind c.run-turn.result m s.moment s.queue.asleep) same_number in
+    let mine = c.run-turn.ensures.runs.0 in
+    let told = mine ++ sleep_note c.run-turn.result c.index-2.result.now.number s.moment in
+    let noted = c.note_sleep.ensures.told ∙ ap (λ ns. ns ++ sleep_note c.run-turn.result c.index-2.result.now.number s.moment) c.run-turn.ensures.runs.1 ∙ append_assoc c.args.notes.now.items mine (sleep_note c.run-turn.result c.index-2.result.now.number s.moment) in
     let over = sym c.put_behind.ensures.over ∙ c.if-put_behind.false in (
-      c.run-turn.ensures.runs.0,
-      c.run-turn.ensures.runs.1,
-      front_runs _ _ s.live.ring rest number c.run-turn.ensures.runs.0 _ p.ring (record {
+      told,
+      noted,
+      front_runs _ _ s.live.ring rest number told _ p.ring (record {
         keeps = record { config = refl; statics = refl; places = refl };
         last = refl;
         moment = refl;
@@ -187,13 +203,16 @@ returns-else-put_behind-clause-runs g c =
         same = c.run-turn.ensures.same;
         setup = c.setup_at-setup.result;
         setup_is = subst P (ap (λ x. x.vs) same) c.setup_at-setup.ensures;
-        edges = c.run-turn.ensures.runs.3;
         turn = c.run-turn.result;
+        told = mine;
+        notes = ap (λ m. mine ++ sleep_note c.run-turn.result m s.moment) same_number;
+        edges = c.run-turn.ensures.runs.3;
         runs = rw n at c.run-turn.ensures.runs.2;
         whole = given_is _ _ c.run-turn.ensures.runs.0 c.run-turn.result _ c.run-turn.ensures.runs.1 c.run-turn.ensures.slice;
         bounded = omega (arith, c.run-turn.ensures.bounded);
         ring = ring;
         queue = λ few. queue_is few;
+        asleep = λ few. asleep_is few;
         goes_on = λ f. items;
         over = λ f. let t : true ≡ false = sym f ∙ over in (cc);
       }),
@@ -212,8 +231,22 @@ returns-in_default-clause-runs g c =
         live = c.pop_ready.ensures.items;
         ring = e.1;
         queue = refl;
+        asleep = refl;
         store = refl;
         notes = refl;
         no_step = omega arith;
       }),
     )
+
+-- where the Run stopped at a call there was room for the note
+few_told : (b : Bool) (old mid new : ℕ) → new ≤ mid + (if b then 1 else 0) → mid ≤ old + 68 → (b ≡ true → mid ≤ old + 67) → new ≤ old + 68
+few_told true old mid new k few asked = let n = asked refl in omega (arith, k, n)
+few_told false old mid new k few asked = omega (arith, k, few)
+
+pub returns-then-put_behind-clause-few_notes : goal.returns-then-put_behind-clause-few_notes
+returns-then-put_behind-clause-few_notes g c =
+    few_told (asks c.run-turn.result) (length c.args.notes.now.items) (length c.run-turn.new.notes.items) (length c.note_sleep.new.notes.items) c.note_sleep.ensures.few c.run-turn.ensures.few_notes (λ e. (c.run-turn.ensures.few_asked e).1)
+
+pub returns-else-put_behind-clause-few_notes : goal.returns-else-put_behind-clause-few_notes
+returns-else-put_behind-clause-few_notes g c =
+    few_told (asks c.run-turn.result) (length c.args.notes.now.items) (length c.run-turn.new.notes.items) (length c.note_sleep.new.notes.items) c.note_sleep.ensures.few c.run-turn.ensures.few_notes (λ e. (c.run-turn.ensures.few_asked e).1)

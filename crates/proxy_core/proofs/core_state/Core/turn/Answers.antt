@@ -44,5 +44,6 @@ returns-clause-turns c =
         live = c.make_ready.ensures.items;
         ring = c.make_ready.ensures.ring ∙ ap (λ n. with_ready s.live.ring n) (number_in at s.live.numbers s.live.items l s.numbered h ∙ number);
         queue = refl;
+        asleep = c.pop.ensures.asleep;
       }),
     )

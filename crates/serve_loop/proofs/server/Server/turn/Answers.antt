@@ -10,23 +10,23 @@ returns-clause-turned g c =
     rw c.turn_end.ensures
     (both_ok c.round-done.result c.flush-written.result c.round-done.ensures.turned c.flush-written.ensures.written c.flush-written.ensures.none_waits
     (λ t written none_waits. (
-      c.now-now.result,
-      c.now-now.ensures.gave,
+      t.0,
+      t.1,
       record {
-        round = t.round;
-        begins = t.begins;
+        round = t.2.round;
+        begins = t.2.begins;
         done = λ s none.
-            let it = t.part.from s in record {
+            let it = t.2.part.from s in record {
               made = it.made;
               told = wrote_all _ (record { none_before = none; untold = c.keeps-self.ensures.untold }) it.told written;
               no_line_waits = none_waits;
               conns = it.conns;
             };
         leaves = record {
-          writers_were = t.leaves.writers_were;
-          slots_are = t.leaves.slots_are;
-          links_are = t.leaves.links_are;
-          writers_are = t.leaves.writers_are;
+          writers_were = t.2.leaves.writers_were;
+          slots_are = t.2.leaves.slots_are;
+          links_are = t.2.leaves.links_are;
+          writers_are = t.2.leaves.writers_are;
         };
       },
     )))
@@ -44,13 +44,14 @@ returns-clause-fell g c =
     let j = old.serving.journal in
     let begun : Journal = record j { recording = c.keeps-self.result } in
     rw c.turn_end.ensures (IfErr-weaker (turn_end c.round-done.result c.flush-written.result) _ _
-    (λ why turn. record { now = c.now-now.result; asked = c.now-now.ensures.gave; turn = turn })
-    (fell_by g.C.Core.face g.N.Net.did g.N.Net.gave c.now-now.result old.slots old.links
-    old.serving begun c.round-done.new.self.serving c.flush-written.new.self c.args.net.now c.round-done.new.net before after
+    (λ why fell. record { moment = fell.0; asked = fell.1; turn = fell.2 })
+    (fell_by g.C.EventCore.face g.N.Net.did g.N.Net.gave g.T.Clock.gave old.slots old.links
+    old.serving begun c.round-done.new.self.serving c.flush-written.new.self c.args.net.now c.round-done.new.net
+    c.args.clock.now c.round-done.new.clock before after
     (λ none. none) c.keeps-self.ensures.untold
     (g.N.Net.faults c.args.net.now) (g.N.Net.faults c.round-done.new.net)
     (g.K.Sink.faults c.args.journal.now) (g.K.Sink.faults c.flush-written.new.sink)
     c.round-done.result c.flush-written.result
-    (on_ok_weaker c.round-done.result (λ t. record { round = t.round; begins = t.begins; part = t.part }) c.round-done.ensures.turned)
-    c.round-done.ensures.fallen c.round-done.ensures.fails
+    (on_ok_weaker c.round-done.result (λ t. (t.0, t.1, record { round = t.2.round; begins = t.2.begins; part = t.2.part })) c.round-done.ensures.turned)
+    c.round-done.ensures.fell c.round-done.ensures.fails
     (record { ok = c.flush-written.ensures.written; err = c.flush-written.ensures.front; from = c.flush-written.ensures.fails })))

@@ -13,16 +13,16 @@ use Rattle.serve_loop.proofs.serving.Serving.accept.Goals as goal
 pub returns-in-None-clause-part : goal.returns-in-None-clause-part
 returns-in-None-clause-part g c =
     part_unknown c.args.self.now.conns (ready.Listener c.args.slot) c.args.self.now c.args.net.now
-    (subst (λ (o : Option (List _)). g.C.Core.face.name c.args.self.now.core c.args.slot o) c.in-None.is c.in_ok-name.ensures)
+    (subst (λ (o : Option (List _)). g.C.EventCore.face.name c.args.self.now.core c.args.slot o) c.in-None.is c.in_ok-name.ensures)
 
 pub returns-in_default-clause-part : goal.returns-in_default-clause-part
 returns-in_default-clause-part g c =
-    part_nothing (AskedOnce g.C.Core.face c.args.self.now.conns (ready.Listener c.args.slot) is.Stays) c.args.self.now c.args.net.now
+    part_nothing (AskedOnce g.C.EventCore.face c.args.self.now.conns (ready.Listener c.args.slot) is.Stays) c.args.self.now c.args.net.now
     (record { none = refl; same = refl; because = inl c.in_default.ensures.next })
 
 pub returns-then-number-self-clause-part : goal.returns-then-number-self-clause-part
 returns-then-number-self-clause-part g c =
-    part_nothing (AskedOnce g.C.Core.face c.args.self.now.conns (ready.Listener c.args.slot) is.Stays) c.args.self.now c.args.net.now
+    part_nothing (AskedOnce g.C.EventCore.face c.args.self.now.conns (ready.Listener c.args.slot) is.Stays) c.args.self.now c.args.net.now
     (record { none = refl; same = refl; because = inr (c.in-Some.number, c.in-Some.ensures.next, c.if-number-self.true) })
 
 pub returns-in_err-name-clause-broke : goal.returns-in_err-name-clause-broke

@@ -11,18 +11,18 @@ pub loop-link-preserved : goal.loop-link-preserved
 loop-link-preserved g c =
     let links = c.args.links.now in
     let i = c.loop-link.link-index in
-    any_next g.C.Core.face c.args.self.now.conns (stand c.args.self.now) links i (i + 1) _ (front_at links i 0 c.loop-link-test.true) c.if-can_ask.ensures
+    any_next g.C.EventCore.face c.args.self.now.conns (stand c.args.self.now) links i (i + 1) _ (front_at links i 0 c.loop-link-test.true) c.if-can_ask.ensures
     c.loop-link.invariant
 
 pub returns-then-can_ask : goal.returns-then-can_ask
 returns-then-can_ask g c =
     let links = c.args.links.now in
     let i = c.loop-link.link-index in
-    any_found g.C.Core.face c.args.self.now.conns (stand c.args.self.now) links i (i + 1) _ (front_at links i 0 c.loop-link-test.true) c.if-can_ask.ensures
+    any_found g.C.EventCore.face c.args.self.now.conns (stand c.args.self.now) links i (i + 1) _ (front_at links i 0 c.loop-link-test.true) c.if-can_ask.ensures
     c.loop-link.invariant
 
 pub returns : goal.returns
 returns g c =
     let links = c.args.links.now in
     let i = c.loop-link.link-index in
-    any_none g.C.Core.face c.args.self.now.conns (stand c.args.self.now) links i (none_left links i c.loop-link-test.false) c.loop-link.invariant
+    any_none g.C.EventCore.face c.args.self.now.conns (stand c.args.self.now) links i (none_left links i c.loop-link-test.false) c.loop-link.invariant

@@ -6,6 +6,6 @@ use Rattle.serve_loop.proofs.serving.Serving.each.Given as goal
 
 abbrev pub invariant-loop-at : goal.invariant-loop-at
 invariant-loop-at g l =
-    (Part g.C.Core.face g.N.Net.did g.N.Net.gave (EachFirst (WorkAt g.C.Core.face l.work l.initial.self.conns) l.order l.at l.stay)
+    (Part g.C.EventCore.face g.N.Net.did g.N.Net.gave (EachFirst (WorkAt g.C.EventCore.face l.work l.initial.self.conns) l.order l.at l.stay)
     l.initial.self l.self l.initial.net l.net)
     × (g.N.Net.faults l.initial.net ≤ g.N.Net.faults l.net)

@@ -23,5 +23,5 @@ returns-in_err-one-clause-broke g c =
 pub returns-in_err-push-clause-broke : goal.returns-in_err-push-clause-broke
 returns-in_err-push-clause-broke g c =
     at_fault _ c.from_residual-in_err-push.result OutOfMemory c.from_residual-in_err-push.ensures.1
-    (broke_after (work_goes g.C.Core.face c.args.work c.args.self.now.conns c.number-number.result _) c.in_ok-one.ensures.part
+    (broke_after (work_goes g.C.EventCore.face c.args.work c.args.self.now.conns c.number-number.result _) c.in_ok-one.ensures.part
     (broke_nothing AreAsks true c.one.new.self c.one.new.net tt))

@@ -17,7 +17,7 @@ returns-clause-part g c =
 pub returns-then-settled-clause-part : goal.returns-then-settled-clause-part
 returns-then-settled-clause-part g c =
     let settled = rw c.if-settled.true at c.settled.ensures in
-    part_nothing (PairOnce g.C.Core.face c.args.writers.now c.args.writers.now is.Over) c.args.self.now c.args.net.now
+    part_nothing (PairOnce g.C.EventCore.face c.args.writers.now c.args.writers.now is.Over) c.args.self.now c.args.net.now
     (refl, record { none = refl; same = refl; because = settled })
 
 pub returns-in_err-note_ready-clause-broke : goal.returns-in_err-note_ready-clause-broke

@@ -36,5 +36,5 @@ returns-clause-part g c =
 pub returns-in_err-run_once-clause-broke : goal.returns-in_err-run_once-clause-broke
 returns-in_err-run_once-clause-broke g c =
     at_fault _ c.from_residual.result c.in_err-run_once.field-0.0 c.from_residual.ensures.1
-    (broke_after (pairs_goes g.C.Core.face c.args.self.now.conns c.loop-often.often c.args.writers.now c.loop-often.writers)
+    (broke_after (pairs_goes g.C.EventCore.face c.args.self.now.conns c.loop-often.often c.args.writers.now c.loop-often.writers)
     c.loop-often.invariant.0 c.in_err-run_once.ensures.broke)

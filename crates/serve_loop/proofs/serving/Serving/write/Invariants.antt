@@ -6,6 +6,6 @@ use Rattle.serve_loop.proofs.serving.Serving.write.Given as goal
 
 abbrev pub invariant-loop-often : goal.invariant-loop-often
 invariant-loop-often g l =
-    (Part g.C.Core.face g.N.Net.did g.N.Net.gave (GaveOften (WroteOnce g.C.Core.face l.initial.self.conns l.conn l.side) l.often)
+    (Part g.C.EventCore.face g.N.Net.did g.N.Net.gave (GaveOften (WroteOnce g.C.EventCore.face l.initial.self.conns l.conn l.side) l.often)
     l.initial.self l.self l.initial.net l.net)
     × (g.N.Net.faults l.initial.net ≤ g.N.Net.faults l.net)

@@ -10,7 +10,7 @@ use Rattle.serve_loop.proofs.serving.Serving.write_both.Goals as goal
 pub returns-clause-part : goal.returns-clause-part
 returns-clause-part g c =
     part_at (λ steps r. record { client = c.in_ok-client.client; server = c.in_ok-server.server; stays_is = c.either.ensures; writes = r })
-    (part_next (λ (conns : ℕ). Wrote g.C.Core.face conns c.args.conn Server c.in_ok-server.server) c.in_ok-client.ensures.part c.in_ok-server.ensures.part)
+    (part_next (λ (conns : ℕ). Wrote g.C.EventCore.face conns c.args.conn Server c.in_ok-server.server) c.in_ok-client.ensures.part c.in_ok-server.ensures.part)
 
 pub returns-in_err-client-clause-broke : goal.returns-in_err-client-clause-broke
 returns-in_err-client-clause-broke g c =
@@ -19,5 +19,5 @@ returns-in_err-client-clause-broke g c =
 pub returns-in_err-server-clause-broke : goal.returns-in_err-server-clause-broke
 returns-in_err-server-clause-broke g c =
     at_fault _ c.from_residual-in_err-server.result c.in_err-server.field-0.0 c.from_residual-in_err-server.ensures.1
-    (broke_after (side_goes g.C.Core.face c.args.self.now.conns c.args.conn Client c.in_ok-client.client) c.in_ok-client.ensures.part
+    (broke_after (side_goes g.C.EventCore.face c.args.self.now.conns c.args.conn Client c.in_ok-client.client) c.in_ok-client.ensures.part
     c.in_err-server.ensures.broke)

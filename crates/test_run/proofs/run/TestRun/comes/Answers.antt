@@ -11,7 +11,7 @@ returns g c =
       number = c.in-Some.conn;
       next = c.in-Some.ensures.next;
       between = stand c.give.new.self;
-      gives = subst (λ (to : List ℕ). Gives g.C.Core.face (Accept c.in-Some.conn to c.args.from) (stand c.args.self.now) (stand c.give.new.self))
+      gives = subst (λ (to : List ℕ). Gives g.C.EventCore.face (Accept c.in-Some.conn to c.args.from) (stand c.args.self.now) (stand c.give.new.self))
           c.in_ok-vs.ensures (c.in_ok-give.ensures taken);
       came = rw c.in_ok-push.ensures.ok;
     }

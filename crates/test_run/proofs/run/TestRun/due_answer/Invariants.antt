@@ -5,4 +5,4 @@ use Rattle.test_run.specs.Stand.{stand}
 use Rattle.test_run.proofs.run.TestRun.due_answer.Given as goal
 
 abbrev pub invariant-loop-one : goal.invariant-loop-one
-invariant-loop-one g l = All (AnswersNone g.C.Core.face (stand l.self)) (take l.one-index l.one-items)
+invariant-loop-one g l = All (AnswersNone g.C.EventCore.face (stand l.self)) (take l.one-index l.one-items)

@@ -9,12 +9,12 @@ use Rattle.test_run.proofs.run.TestRun.due_take.Goals as goal
 
 pub loop-one-preserved : goal.loop-one-preserved
 loop-one-preserved g c =
-    All-more (TakesNone g.C.Core.face (stand c.args.self.now)) c.as_slice-one-items.result.now c.loop-one.one-index
+    All-more (TakesNone g.C.EventCore.face (stand c.args.self.now)) c.as_slice-one-items.result.now c.loop-one.one-index
     (record { client = 0; conn = 0 }) c.loop-one-test.true c.loop-one.invariant
-    (subst (λ (o : Option Due). IfNone o (TakesNone g.C.Core.face (stand c.args.self.now) (get_or c.as_slice-one-items.result.now c.loop-one.one-index (record { client = 0; conn = 0 })))) (none_of c.take_of.result c.in_default.not-Some)
+    (subst (λ (o : Option Due). IfNone o (TakesNone g.C.EventCore.face (stand c.args.self.now) (get_or c.as_slice-one-items.result.now c.loop-one.one-index (record { client = 0; conn = 0 })))) (none_of c.take_of.result c.in_default.not-Some)
     c.take_of.ensures.none)
 
 pub returns-clause-none : goal.returns-clause-none
 returns-clause-none g c =
-    all_of (TakesNone g.C.Core.face (stand c.args.self.now)) c.as_slice-one-items.result.now c.args.self.now.known.came
+    all_of (TakesNone g.C.EventCore.face (stand c.args.self.now)) c.as_slice-one-items.result.now c.args.self.now.known.came
     c.loop-one.one-index c.loop-one.invariant c.loop-one-test.false c.as_slice-one-items.ensures

@@ -1,0 +1,9 @@
+pub mod Documents
+pub mod Exchange
+pub mod History
+pub mod Keys
+pub mod Laws
+pub mod Made
+pub mod Outcomes
+pub mod Pass
+pub mod Pump

@@ -1,0 +1,4 @@
+pub mod NamesTold
+pub mod Results
+pub mod Sources
+pub mod Told

@@ -1,0 +1,9 @@
+use Rattle.std.proofs.Common.{◌++◌, ap, ◌∙◌}
+use Rattle.tmsh_text.specs.Printed.{group_text}
+use Rattle.tmsh_text.proofs.Lists.{one_more}
+use Rattle.tmsh_text.proofs.groups.groups.Goals as goal
+
+pub loop-one-preserved : goal.loop-one-preserved
+loop-one-preserved c =
+    one_more group_text c.args.groups.now c.loop-one.one-index c.one-item.result c.loop-one-test.true c.one-item.is
+    c.loop-one.text c.push.new.self (c.in_ok-push.ensures.ok ∙ ap (λ t. c.loop-one.text ++ t) (c.as_bytes.ensures ∙ c.in_ok-stanza.ensures)) c.loop-one.invariant

@@ -1,0 +1,5 @@
+pub mod Braces
+pub mod Imported
+pub mod Items
+pub mod Printed
+pub mod Words

@@ -1,0 +1,6 @@
+//! Texts of TOML.
+#![tactic(auto)]
+
+mod laws;
+
+pub use laws::texts_are_utf8;
