@@ -330,7 +330,7 @@ kept_before C b p = record {
   matches = every_past_matches C p.past p.state p.represents.sound.leads;
 }
 
-pub promised : (C : Config) (steps : List PlacedStep) (moves : List TestMove) (end : RunEnd) (a b : Stand Core) → StandsFor C a
+promised : (C : Config) (steps : List PlacedStep) (moves : List TestMove) (end : RunEnd) (a b : Stand Core) → StandsFor C a
     → RunEnds core_face steps moves end a b → PromisedAt C end b
 promised C steps moves run_end.Done a b p made = kept C b (follows C steps made p)
 promised C steps moves (run_end.Refused step) a b p k = kept_before C b (refuses_move C steps k.one k.between b k.ends (follows C steps k.follows p))
