@@ -1,5 +1,5 @@
 -- What goes on by itself: the core until it is settled, then servers' answers, then what sides take.
-use Rattle.std.specs.Prelude.{◌≡◌, ℕ, ◌<◌, ◌==◌, ◌&&◌, ◌-◌, Bool, true, false, List, [], ◌∷◌, length, min, Option, Some, None}
+use Rattle.std.specs.Prelude.{◌≡◌, ℕ, ◌+◌, ◌<◌, ◌==◌, ◌&&◌, ◌-◌, Bool, true, false, List, [], ◌∷◌, length, min, Option, Some, None}
 use Rattle.std.specs.Prelude.{if◌then◌else◌}
 use Rattle.std.specs.List.{All}
 use Rattle.core_events.specs.declared.event.Event.TheVariants as event
@@ -13,10 +13,12 @@ use Rattle.test_past.specs.declared.entry.ClientConn.{ClientConn}
 use Rattle.test_past.specs.declared.entry.RunEntry.{RunEntry}
 use Rattle.test_past.specs.declared.entry.RunEntry.TheVariants.{Took, Rests}
 use Rattle.test_run.specs.Known.{amount_from, answer_of, meeting_from}
-use Rattle.test_run.specs.Stand.{Gives, Stand, Takes, with_entry}
+use Rattle.test_run.specs.Stand.{Gives, Refuses, RefusesTake, Stand, Takes}
 use Rattle.test_run.specs.declared.due.Due.{Due}
 use Rattle.test_run.specs.declared.due.Due.TheVariants as due
 use Rattle.test_run.specs.declared.known.Meets.{Meets}
+use Rattle.test_run.specs.declared.rest.MoveEnd.{MoveEnd}
+use Rattle.test_run.specs.declared.rest.MoveEnd.TheVariants.{Made, Refused, Restless}
 use Rattle.test_text.specs.declared.deed.Meeting.TheVariants.{Connects}
 
 -- ---- answers
@@ -110,7 +112,53 @@ pub data Goes {S : Type 0} (face : Face S) : Stand S → Stand S → Type 0 wher
   Stays : {a : Stand S} → Goes face a a
   Then : {a c : Stand S} → (b : Stand S) (d : Due) → Goes face a b → IsDue face b d → DoesDue face d b c → Goes face a c
 
--- a rest begins, and what is due is done until nothing is
+-- how many events were due and done
+abbrev pub event_count : {S : Type 0} {face : Face S} {a b : Stand S} → Goes face a b → ℕ
+event_count Stays = 0
+event_count (Then b d before is does) = event_count before + 1
+
+-- ---- how a rest ends
+
+abbrev pub made_if : (taken : Bool) → MoveEnd
+made_if true = Made
+made_if false = Refused
+
+
+-- the most events of one rest
+abbrev pub most_events : ℕ
+most_events = 1048576
+
+-- what is due is done until nothing is, which fewer events than the most come to
 pub record ComesToRest {S : Type 0} (face : Face S) (a b : Stand S) : Type 0 where
-  pub goes : Goes face (with_entry Rests a) b
+  pub goes : Goes face a b
+  pub few : event_count goes < most_events
   pub at_rest : IsAtRest face b
+
+abbrev pub RefusesAnswer : {S : Type 0} → Face S → ℕ → (made : Bool) → Stand S → Stand S → Type 0
+RefusesAnswer face conn true a b = Refuses face (event.Connected conn) a b
+RefusesAnswer face conn false a b = Refuses face (event.Refused conn) a b
+
+abbrev pub RefusesDue : {S : Type 0} → Face S → Due → Stand S → Stand S → Type 0
+RefusesDue face due.Runs a b = Refuses face event.Run a b
+RefusesDue face due.Turns a b = Refuses face event.Turn a b
+RefusesDue face (due.Answers conn made) a b = RefusesAnswer face conn made a b
+RefusesDue face (due.Takes side conn n) a b = RefusesTake face side conn n a b
+
+-- or until what is due is refused
+pub record RestRefused {S : Type 0} (face : Face S) (a b : Stand S) : Type 0 where
+  pub between : Stand S
+  pub goes : Goes face a between
+  pub few : event_count goes < most_events
+  pub it : Due
+  pub is_due : IsDue face between it
+  pub refuses : RefusesDue face it between b
+
+-- or the most events are given
+pub record IsRestless {S : Type 0} (face : Face S) (a b : Stand S) : Type 0 where
+  pub goes : Goes face a b
+  pub most : event_count goes ≡ most_events
+
+abbrev pub RestEnds : {S : Type 0} → Face S → MoveEnd → Stand S → Stand S → Type 0
+RestEnds face Made a b = ComesToRest face a b
+RestEnds face Refused a b = RestRefused face a b
+RestEnds face Restless a b = IsRestless face a b

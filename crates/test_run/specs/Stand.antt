@@ -45,3 +45,18 @@ pub record Takes {S : Type 0} (face : Face S) (side : Side) (conn n : ℕ) (a b 
   pub between : Stand S
   pub keeps : Keeps face side conn n a between
   pub gives : Gives face (took_event side conn n) between b
+
+-- ---- an event that is refused
+
+-- A core that stands as it should doesn't take the event. It is kept all the same, without any note.
+pub record Refuses {S : Type 0} (face : Face S) (e : Event) (a b : Stand S) : Type 0 where
+  pub not_taken : face.stands a.core → face.takes a.core e → ⊥
+  pub stands : face.stands a.core → face.stands b.core
+  pub known : b.known ≡ a.known
+  pub entries : b.entries ≡ a.entries ++ Given e ∷ []
+
+-- a side doesn't take the first bytes that are pending to it, so many, which are kept
+pub record RefusesTake {S : Type 0} (face : Face S) (side : Side) (conn n : ℕ) (a b : Stand S) : Type 0 where
+  pub between : Stand S
+  pub keeps : Keeps face side conn n a between
+  pub refuses : Refuses face (took_event side conn n) between b

@@ -1,9 +1,10 @@
 // What a test does.
 
-ghost use Rattle.std.specs.Prelude.{◌≡◌, IfOk, IsTrue};
+ghost use Rattle.std.specs.Prelude.{◌≡◌, IfOk, IsFalse, IsTrue};
 ghost use Rattle.core_events.specs.Face.{end_event, from_event, reset_event};
-ghost use Rattle.test_run.specs.Deeds.{Comes, DoesDeed, DoesPeer, OnConn, Ticks};
-ghost use Rattle.test_run.specs.Stand.{Gives, stand};
+ghost use Rattle.test_run.specs.Deeds.{Comes, ComesNot, DoesDeed, DoesPeer, OnConn, RefusesDeed};
+ghost use Rattle.test_run.specs.Deeds.{RefusesOf, RefusesPeer, Ticks, TicksNot};
+ghost use Rattle.test_run.specs.Stand.{Gives, Refuses, stand};
 
 use crate::known::{Amount, Meets};
 use crate::run::TestRun;
@@ -42,8 +43,10 @@ fn reset_event(side: Side, conn: u32) -> Event
 impl<C: EventCore + Drop> TestRun<C> {
     // A client comes to a virtual server.
     fn comes(&mut self, client: usize, from: Addr, to: &Text) -> M<bool>
-        ensures { IfOk result (λ taken. IsTrue taken
+        ensures comes { IfOk result (λ taken. IsTrue taken
             → Comes C.face client from to.now (stand self.old) (stand self.new)) }
+        ensures refused { IfOk result (λ taken. IsFalse taken
+            → ComesNot C.face from to.now (stand self.old) (stand self.new)) }
     {
         let Some(conn) = self.core.next() else {
             return Ok(false);
@@ -57,7 +60,9 @@ impl<C: EventCore + Drop> TestRun<C> {
     }
 
     fn sends(&mut self, side: Side, client: usize, bytes: &Text) -> M<bool>
-        ensures { IfOk result (λ taken. IsTrue taken → OnConn C.face client
+        ensures sends { IfOk result (λ taken. IsTrue taken → OnConn C.face client
+            (λ conn. from_event side conn bytes.now) (stand self.old) (stand self.new)) }
+        ensures refused { IfOk result (λ taken. IsFalse taken → RefusesOf C.face client
             (λ conn. from_event side conn bytes.now) (stand self.old) (stand self.new)) }
     {
         let Some(conn) = conn_of(client, self.known.came.as_slice()) else {
@@ -68,7 +73,9 @@ impl<C: EventCore + Drop> TestRun<C> {
     }
 
     fn ends(&mut self, side: Side, client: usize) -> M<bool>
-        ensures { IfOk result (λ taken. IsTrue taken → OnConn C.face client
+        ensures ends { IfOk result (λ taken. IsTrue taken → OnConn C.face client
+            (end_event side) (stand self.old) (stand self.new)) }
+        ensures refused { IfOk result (λ taken. IsFalse taken → RefusesOf C.face client
             (end_event side) (stand self.old) (stand self.new)) }
     {
         match conn_of(client, self.known.came.as_slice()) {
@@ -78,7 +85,9 @@ impl<C: EventCore + Drop> TestRun<C> {
     }
 
     fn resets(&mut self, side: Side, client: usize) -> M<bool>
-        ensures { IfOk result (λ taken. IsTrue taken → OnConn C.face client
+        ensures resets { IfOk result (λ taken. IsTrue taken → OnConn C.face client
+            (reset_event side) (stand self.old) (stand self.new)) }
+        ensures refused { IfOk result (λ taken. IsFalse taken → RefusesOf C.face client
             (reset_event side) (stand self.old) (stand self.new)) }
     {
         match conn_of(client, self.known.came.as_slice()) {
@@ -89,8 +98,10 @@ impl<C: EventCore + Drop> TestRun<C> {
 
     // What a client does, or its server.
     fn peer(&mut self, side: Side, client: usize, deed: &PeerDeed) -> M<bool>
-        ensures { IfOk result (λ taken. IsTrue taken
+        ensures does { IfOk result (λ taken. IsTrue taken
             → DoesPeer C.face side client deed.now (stand self.old) (stand self.new)) }
+        ensures refused { IfOk result (λ taken. IsFalse taken
+            → RefusesPeer C.face side client deed.now (stand self.old) (stand self.new)) }
     {
         match deed {
             PeerDeed::Sends(bytes) => self.sends(side, client, bytes),
@@ -105,16 +116,20 @@ impl<C: EventCore + Drop> TestRun<C> {
     }
 
     fn marks(&mut self, pool: &Text, member: Addr, up: bool) -> M<bool>
-        ensures { IfOk result (λ taken. IsTrue taken
+        ensures marks { IfOk result (λ taken. IsTrue taken
             → Gives C.face (Event.Mark pool.now member up) (stand self.old) (stand self.new)) }
+        ensures refused { IfOk result (λ taken. IsFalse taken → Refuses C.face
+            (Event.Mark pool.now member up) (stand self.old) (stand self.new)) }
     {
         let pool = pool.copy()?;
         self.give(Event::Mark { pool, member, up })
     }
 
     fn waits(&mut self, milliseconds: u64) -> M<bool>
-        ensures { IfOk result (λ taken. IsTrue taken
+        ensures waits { IfOk result (λ taken. IsTrue taken
             → Ticks C.face milliseconds (stand self.old) (stand self.new)) }
+        ensures refused { IfOk result (λ taken. IsFalse taken
+            → TicksNot C.face milliseconds (stand self.old) (stand self.new)) }
     {
         match self.core.moment().checked_add(milliseconds) {
             Some(moment) => self.give(Event::Tick { moment }),
@@ -124,8 +139,10 @@ impl<C: EventCore + Drop> TestRun<C> {
 
     /// Does what a line of a test says. Says whether it could.
     pub(crate) fn do_deed(&mut self, deed: &Deed) -> M<bool>
-        ensures { IfOk result (λ taken. IsTrue taken
+        ensures does { IfOk result (λ taken. IsTrue taken
             → DoesDeed C.face deed.now (stand self.old) (stand self.new)) }
+        ensures refused { IfOk result (λ taken. IsFalse taken
+            → RefusesDeed C.face deed.now (stand self.old) (stand self.new)) }
     {
         match deed {
             Deed::Comes { client, from, to } => self.comes(*client, *from, &to.name),

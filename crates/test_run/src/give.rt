@@ -1,8 +1,8 @@
 // An event is given to the core.
 
-ghost use Rattle.std.specs.Prelude.{◌≡◌, IfOk, IsTrue, take};
+ghost use Rattle.std.specs.Prelude.{◌≡◌, IfOk, IsFalse, IsTrue, take};
 ghost use Rattle.core_events.specs.Face.{took_event};
-ghost use Rattle.test_run.specs.Stand.{Gives, Keeps, Takes, stand};
+ghost use Rattle.test_run.specs.Stand.{Gives, Keeps, Refuses, RefusesTake, Takes, stand};
 
 use crate::event_copy::copy_event;
 use crate::run::TestRun;
@@ -14,8 +14,10 @@ use test_past::RunEntry;
 impl<C: EventCore + Drop> TestRun<C> {
     /// Gives an event to the core, and keeps it with what its notes tell. Says whether it was taken.
     pub(crate) fn give(&mut self, event: Event) -> M<bool>
-        ensures { IfOk result (λ taken. IsTrue taken
+        ensures given { IfOk result (λ taken. IsTrue taken
             → Gives C.face event (stand self.old) (stand self.new)) }
+        ensures refused { IfOk result (λ taken. IsFalse taken
+            → Refuses C.face event (stand self.old) (stand self.new)) }
     {
         self.notes.clear();
         self.notes.reserve(68)?;
@@ -38,8 +40,10 @@ impl<C: EventCore + Drop> TestRun<C> {
 
     /// A side takes the first bytes that are pending to it, so many.
     pub(crate) fn take(&mut self, side: Side, conn: u32, n: usize) -> M<bool>
-        ensures { IfOk result (λ taken. IsTrue taken
+        ensures taken { IfOk result (λ taken. IsTrue taken
             → Takes C.face side conn n (stand self.old) (stand self.new)) }
+        ensures refused { IfOk result (λ taken. IsFalse taken
+            → RefusesTake C.face side conn n (stand self.old) (stand self.new)) }
     {
         self.keep_taken(side, conn, n)?;
         self.give(took_event(side, conn, n))

@@ -1,8 +1,9 @@
 // The moves of a run are made.
 
-ghost use Rattle.std.specs.Prelude.{◌≡◌, IfOk, IsTrue, option_map};
-ghost use Rattle.test_run.specs.Moves.{DoesMove, DoesPiece, Follows, deed_at, deed_in, is_dropped};
-ghost use Rattle.test_run.specs.Moves.{sender_at, sender_of};
+ghost use Rattle.std.specs.Prelude.{◌≡◌, IfOk, IsFalse, IsTrue, Some, option_map};
+ghost use Rattle.test_run.specs.Moves.{DoesMove, DoesPiece, MoveEnds, RefusesMove, RefusesSending};
+ghost use Rattle.test_run.specs.Moves.{RunEnds, deed_at, deed_in, is_dropped, sender_at};
+ghost use Rattle.test_run.specs.Moves.{sender_of, step_of};
 ghost use Rattle.test_run.specs.Stand.{stand};
 
 use crate::deeds::from_event;
@@ -65,7 +66,9 @@ fn sender_at(steps: &[PlacedStep], step: usize, at: usize) -> Option<SendingSide
 }
 
 // The step of a move, where it tells one.
-fn step_of(one: &TestMove, before: usize) -> usize {
+fn step_of(one: &TestMove, before: usize) -> usize
+    ensures { result ≡ step_of one.now before }
+{
     match one {
         TestMove::Does { step, .. } => *step,
         TestMove::Sends { step, .. } => *step,
@@ -89,8 +92,10 @@ impl<C: EventCore + Drop> TestRun<C> {
 
     // Gives a piece of a text.
     fn piece(&mut self, sending: SendingText, sender: SendingSide, bytes: &Text) -> M<bool>
-        ensures { IfOk result (λ taken. IsTrue taken
+        ensures does { IfOk result (λ taken. IsTrue taken
             → DoesPiece C.face sending sender bytes.now (stand self.old) (stand self.new)) }
+        ensures refused { IfOk result (λ taken. IsFalse taken → RefusesSending C.face sending
+            (Some sender) bytes.now (stand self.old) (stand self.new)) }
     {
         let Some(conn) = conn_of(sender.client, self.known.came.as_slice()) else {
             return Ok(false);
@@ -104,7 +109,9 @@ impl<C: EventCore + Drop> TestRun<C> {
     }
 
     fn send(&mut self, steps: &[PlacedStep], step: usize, at: usize, bytes: &Text) -> M<bool>
-        ensures { IfOk result (λ taken. IsTrue taken → DoesMove C.face steps.now
+        ensures does { IfOk result (λ taken. IsTrue taken → DoesMove C.face steps.now
+            (TestMove.Sends step at bytes.now) (stand self.old) (stand self.new)) }
+        ensures refused { IfOk result (λ taken. IsFalse taken → RefusesMove C.face steps.now
             (TestMove.Sends step at bytes.now) (stand self.old) (stand self.new)) }
     {
         match sender_at(steps, step, at) {
@@ -114,7 +121,9 @@ impl<C: EventCore + Drop> TestRun<C> {
     }
 
     fn do_at(&mut self, steps: &[PlacedStep], step: usize, at: usize) -> M<bool>
-        ensures { IfOk result (λ taken. IsTrue taken → DoesMove C.face steps.now
+        ensures does { IfOk result (λ taken. IsTrue taken → DoesMove C.face steps.now
+            (TestMove.Does step at) (stand self.old) (stand self.new)) }
+        ensures refused { IfOk result (λ taken. IsFalse taken → RefusesMove C.face steps.now
             (TestMove.Does step at) (stand self.old) (stand self.new)) }
     {
         match deed_at(steps, step, at) {
@@ -124,8 +133,8 @@ impl<C: EventCore + Drop> TestRun<C> {
     }
 
     fn make(&mut self, steps: &[PlacedStep], one: &TestMove) -> M<MoveEnd>
-        ensures { IfOk result (λ end. end ≡ MoveEnd.Made
-            → DoesMove C.face steps.now one.now (stand self.old) (stand self.new)) }
+        ensures { IfOk result (λ end. MoveEnds C.face steps.now one.now end
+            (stand self.old) (stand self.new)) }
     {
         match one {
             TestMove::Does { step, at } => Ok(made_if(self.do_at(steps, *step, *at)?)),
@@ -142,8 +151,8 @@ impl<C: EventCore + Drop> TestRun<C> {
 
     /// Makes the moves, one behind the other, and says how that ended.
     pub fn follow(&mut self, steps: &[PlacedStep], moves: &[TestMove]) -> M<RunEnd>
-        ensures { IfOk result (λ end. end ≡ RunEnd.Done
-            → Follows C.face steps.now moves.now (stand self.old) (stand self.new)) }
+        ensures { IfOk result (λ end. RunEnds C.face steps.now moves.now end
+            (stand self.old) (stand self.new)) }
     {
         let mut step = 0;
         for one in moves {

@@ -1,8 +1,9 @@
 // What can go on does, until all is at rest.
 
-ghost use Rattle.std.specs.Prelude.{◌≡◌, IfOk, IsTrue};
-ghost use Rattle.test_run.specs.Due.{Answering, ComesToRest, DoesDue, Goes, IsAtRest};
-ghost use Rattle.test_run.specs.Stand.{stand};
+ghost use Rattle.std.specs.Prelude.{◌≡◌, IfOk, IsFalse, IsTrue};
+ghost use Rattle.test_run.specs.Due.{Answering, DoesDue, RefusesAnswer, RefusesDue, RestEnds};
+ghost use Rattle.test_run.specs.Due.{made_if};
+ghost use Rattle.test_run.specs.Stand.{stand, with_entry};
 
 use crate::due::Due;
 use crate::run::TestRun;
@@ -24,7 +25,7 @@ pub(crate) enum MoveEnd {
 }
 
 pub(crate) fn made_if(taken: bool) -> MoveEnd
-    ensures { result ≡ MoveEnd.Made → IsTrue taken }
+    ensures { result ≡ made_if taken }
 {
     if taken {
         MoveEnd::Made
@@ -35,8 +36,10 @@ pub(crate) fn made_if(taken: bool) -> MoveEnd
 
 impl<C: EventCore + Drop> TestRun<C> {
     fn answer_conn(&mut self, conn: u32, made: bool) -> M<bool>
-        ensures { IfOk result (λ taken. IsTrue taken
+        ensures answers { IfOk result (λ taken. IsTrue taken
             → Answering C.face conn made (stand self.old) (stand self.new)) }
+        ensures refused { IfOk result (λ taken. IsFalse taken
+            → RefusesAnswer C.face conn made (stand self.old) (stand self.new)) }
     {
         if made {
             self.give(Event::Connected { conn })
@@ -46,8 +49,10 @@ impl<C: EventCore + Drop> TestRun<C> {
     }
 
     fn do_due(&mut self, due: Due) -> M<bool>
-        ensures { IfOk result (λ taken. IsTrue taken
+        ensures does { IfOk result (λ taken. IsTrue taken
             → DoesDue C.face due (stand self.old) (stand self.new)) }
+        ensures refused { IfOk result (λ taken. IsFalse taken
+            → RefusesDue C.face due (stand self.old) (stand self.new)) }
     {
         match due {
             Due::Runs => self.give(Event::Run),
@@ -59,8 +64,8 @@ impl<C: EventCore + Drop> TestRun<C> {
 
     // Does what is due, until nothing is.
     fn go(&mut self) -> M<MoveEnd>
-        ensures { IfOk result (λ end. end ≡ MoveEnd.Made
-            → Goes C.face (stand self.old) (stand self.new) × IsAtRest C.face (stand self.new)) }
+        ensures { IfOk result
+            (λ end. RestEnds C.face end (stand self.old) (stand self.new)) }
     {
         for _ in 0..MOST_EVENTS {
             let Some(due) = self.due() else {
@@ -75,8 +80,8 @@ impl<C: EventCore + Drop> TestRun<C> {
 
     /// What can go on does, until all is at rest.
     pub(crate) fn rest(&mut self) -> M<MoveEnd>
-        ensures { IfOk result (λ end. end ≡ MoveEnd.Made
-            → ComesToRest C.face (stand self.old) (stand self.new)) }
+        ensures { IfOk result (λ end. RestEnds C.face end
+            (with_entry RunEntry.Rests (stand self.old)) (stand self.new)) }
     {
         self.entries.push(RunEntry::Rests)?;
         self.go()

@@ -1,15 +1,22 @@
 -- The core stands for the past of the events that a run gave.
-use Rattle.std.proofs.Common.{◌≡◌, ℕ, List, [], ◌∷◌, ◌++◌, true, false, Option, Some, None, refl, ap, sym, ◌∙◌, subst, append_assoc}
+use Rattle.std.proofs.Common.{◌≡◌, ◌⊎◌, ℕ, ◌+◌, ◌^◌, ◌≤◌, List, [], ◌∷◌, ◌++◌, true, false, Option, Some, None, refl, ap, sym, ◌∙◌, subst, append_assoc, inl, inr, tt}
 use Rattle.std.proofs.lemmas.List.{append-nil}
-use Rattle.std.specs.Prelude.{Bool, IfOk, Result, Ok, Err, cond, flat_map}
+use Rattle.std.specs.Prelude.{Bool, IfOk, IfSome, Result, Ok, Err, cond, flat_map, option_to_list}
+use Rattle.core_events.specs.Face.{end_event, from_event, reset_event}
+use Rattle.core_events.specs.Kinds.{kind_of}
+use Rattle.core_events.specs.declared.bad_event.BadEvent.{BadEvent}
 use Rattle.core_events.specs.declared.event.Event.{Event}
+use Rattle.core_events.specs.declared.event.Event.TheVariants as event
 use Rattle.core_events.specs.declared.note.Note.{Note}
 use Rattle.core_events.specs.declared.note.Note.TheVariants as note
 use Rattle.proxy_core.proofs.Promises.{every_past_matches}
-use Rattle.proxy_core.specs.Face.{core_face}
+use Rattle.proxy_core.proofs.Stepping.{refusal_same}
+use Rattle.proxy_core.specs.Face.{TakesEvent, core_face}
+use Rattle.proxy_core.specs.Refusal.{refused}
 use Rattle.proxy_core.specs.Represents.{Represents}
 use Rattle.proxy_core.specs.Scheduler.{State, no_connections}
 use Rattle.proxy_core.specs.declared.core_state.Core.{Core}
+use Rattle.px_bytes.specs.declared.addr.Addr.{Addr}
 use Rattle.px_bytes.specs.declared.addr.Side.{Side}
 use Rattle.record_model.specs.Past.{Past}
 use Rattle.record_model.specs.Setup.{init_notes}
@@ -18,10 +25,11 @@ use Rattle.test_past.specs.declared.entry.RunEntry.{RunEntry}
 use Rattle.test_past.specs.declared.entry.RunEntry.TheVariants as entry
 use Rattle.test_plan.specs.declared.plan.TestMove.{TestMove}
 use Rattle.test_plan.specs.declared.plan.TestMove.TheVariants as move
-use Rattle.test_run.specs.Deeds.{DoesDeed, DoesPeer}
-use Rattle.test_run.specs.Due.{Answering, DoesDue, Goes, Stays, Then}
-use Rattle.test_run.specs.Moves.{DoesMove, DoesSome, Follows, More, SendsSome, SendsUnless, Still, deed_at, sender_at}
-use Rattle.test_run.specs.Stand.{Gives, Stand, Takes, stand}
+use Rattle.test_run.specs.Deeds.{DoesDeed, DoesPeer, RefusesAccept, RefusesDeed, RefusesOn, RefusesPeer, TicksNot}
+use Rattle.test_run.specs.Due.{Answering, DoesDue, Goes, RefusesAnswer, RefusesDue, Stays, Then}
+use Rattle.test_run.specs.Moves.{DoesMove, DoesSome, Follows, More, RefusesMove, RefusesPiece, RefusesSending, RefusesSome}
+use Rattle.test_run.specs.Moves.{RefusesUnless, RestlessMove, RunEnds, SendsSome, SendsUnless, Still, deed_at, sender_at}
+use Rattle.test_run.specs.Stand.{Gives, Refuses, RefusesTake, Stand, Takes, stand}
 use Rattle.test_run.specs.Told.{called, told}
 use Rattle.test_run.specs.declared.due.Due.{Due}
 use Rattle.test_run.specs.declared.due.Due.TheVariants as due
@@ -32,9 +40,10 @@ use Rattle.test_text.specs.declared.deed.Deed.TheVariants as deed
 use Rattle.test_text.specs.declared.deed.PeerDeed.{PeerDeed}
 use Rattle.test_text.specs.declared.deed.PeerDeed.TheVariants as peer
 use Rattle.test_text.specs.declared.test_file.PlacedStep.{PlacedStep}
-use Rattle.test_past.specs.declared.verdict.RunEnd.TheVariants.{Done}
+use Rattle.test_past.specs.declared.verdict.RunEnd.{RunEnd}
+use Rattle.test_past.specs.declared.verdict.RunEnd.TheVariants as run_end
 use Rattle.test_run.specs.declared.run.TestRun.{TestRun}
-use Rattle.tested_core.specs.Runs.{Followed, IsPromised, Ran, event_in, events_in, events_of, started}
+use Rattle.tested_core.specs.Runs.{Followed, IsPromised, IsPromisedBefore, IsRefused, PromisedAt, Ran, event_in, events_in, events_of, started}
 use Rattle.tested_core.specs.declared.runs.RunDone.{RunDone}
 
 -- ---- entries
@@ -176,30 +185,170 @@ follows : (C : Config) (steps : List PlacedStep) {moves : List TestMove} {a b : 
 follows C steps Still p = p
 follows C steps (More moves one between before does) p = makes C steps one between _ does (follows C steps before p)
 
-pub promised : (C : Config) (steps : List PlacedStep) (moves : List TestMove) (a b : Stand Core) → events_in a.entries ≡ []
-    → Represents C [] no_connections a.core → Follows core_face steps moves a b → IsPromised C b
-promised C steps moves a b none stands made =
-    let p = follows C steps made (record { past = []; state = no_connections; represents = stands; events = none }) in
-    record {
-      past = p.past;
-      state = p.state;
-      represents = p.represents;
-      events = p.events;
-      matches = every_past_matches C p.past p.state p.represents.sound.leads;
-    }
+-- ---- what is refused
+
+-- the core stood for a past of the events that were given, but for the last, if it refuses one
+record StandsBefore (C : Config) (s : Stand Core) : Type 0 where
+  past : Past
+  state : State
+  core : Core
+  represents : Represents C past state core
+  last : Option Event
+  events : events_in s.entries ≡ events_of past ++ option_to_list last
+  refused : IfSome last (IsRefused C past state)
+
+-- whatever a core stands for, it refuses the same
+refused_by : (C : Config) (past : Past) (state : State) (core : Core) (e : Event) → Represents C past state core
+    → (TakesEvent core e → ⊥) → (o : Option BadEvent) → refused C past state (kind_of e) ≡ o → IsRefused C past state e
+refused_by C past state core e r never None is =
+    absurd (never (λ D p t there. sym (refusal_same D p t core (kind_of e) there) ∙ refusal_same C past state core (kind_of e) r ∙ is))
+refused_by C past state core e r never (Some why) is = (why, is)
+
+refuses : (C : Config) (e : Event) (a b : Stand Core) → Refuses core_face e a b → StandsFor C a → StandsBefore C b
+refuses C e a b r p = record {
+  past = p.past;
+  state = p.state;
+  core = a.core;
+  represents = p.represents;
+  last = Some e;
+  events = ap events_in r.entries ∙ events_append a.entries (entry.Given e ∷ []) ∙ ap (λ l. l ++ e ∷ []) p.events;
+  refused = refused_by C p.past p.state a.core e p.represents
+      (r.not_taken (record { config = C; past = p.past; state = p.state; represents = p.represents })) _ refl;
+}
+
+-- nothing was given
+stays : (C : Config) (a b : Stand Core) → b ≡ a → StandsFor C a → StandsBefore C b
+stays C a b is p = record {
+  past = p.past;
+  state = p.state;
+  core = a.core;
+  represents = p.represents;
+  last = None;
+  events = ap (λ s. events_in s.entries) is ∙ p.events ∙ sym (append-nil (events_of p.past));
+  refused = tt;
+}
+
+refuses_take : (C : Config) (side : Side) (conn n : ℕ) (a b : Stand Core) → RefusesTake core_face side conn n a b → StandsFor C a
+    → StandsBefore C b
+refuses_take C side conn n a b t p =
+    refuses C _ t.between b t.refuses
+    (subst (StandsFor C) (sym t.keeps.kept) (quiet C a (entry.Took conn side _) refl p))
+
+refuses_answer : (C : Config) (conn : ℕ) (made : Bool) (a b : Stand Core) → RefusesAnswer core_face conn made a b → StandsFor C a
+    → StandsBefore C b
+refuses_answer C conn true a b r p = refuses C _ a b r p
+refuses_answer C conn false a b r p = refuses C _ a b r p
+
+refuses_due : (C : Config) (d : Due) (a b : Stand Core) → RefusesDue core_face d a b → StandsFor C a → StandsBefore C b
+refuses_due C due.Runs a b r p = refuses C _ a b r p
+refuses_due C due.Turns a b r p = refuses C _ a b r p
+refuses_due C (due.Answers conn made) a b r p = refuses_answer C conn made a b r p
+refuses_due C (due.Takes side conn n) a b r p = refuses_take C side conn n a b r p
+
+refuses_on : (C : Config) (conn : Option ℕ) (event : ℕ → Event) (a b : Stand Core) → RefusesOn core_face conn event a b → StandsFor C a
+    → StandsBefore C b
+refuses_on C None event a b is p = stays C a b is p
+refuses_on C (Some conn) event a b r p = refuses C (event conn) a b r p
+
+refuses_accept : (C : Config) (number : Option ℕ) (from : Addr) (to : List ℕ) (a b : Stand Core) → RefusesAccept core_face number from to a b
+    → StandsFor C a → StandsBefore C b
+refuses_accept C None from to a b is p = stays C a b is p
+refuses_accept C (Some number) from to a b r p = refuses C _ a b r p
+
+refuses_peer : (C : Config) (side : Side) (client : ℕ) (it : PeerDeed) (a b : Stand Core) → RefusesPeer core_face side client it a b
+    → StandsFor C a → StandsBefore C b
+refuses_peer C side client (peer.Sends bytes) a b r p = refuses_on C _ (λ conn. from_event side conn bytes) a b r p
+refuses_peer C side client peer.Ends a b r p = refuses_on C _ (end_event side) a b r p
+refuses_peer C side client peer.Resets a b r p = refuses_on C _ (reset_event side) a b r p
+refuses_peer C side client (peer.Takes most) a b never p = absurd never
+
+refuses_tick : (C : Config) (milliseconds : ℕ) (a b : Stand Core) (t : TicksNot core_face milliseconds a b) → StandsFor C a
+    → ((2 ^ 64 ≤ t.moment + milliseconds) × (b ≡ a)) ⊎ Refuses core_face (event.Tick (t.moment + milliseconds)) a b → StandsBefore C b
+refuses_tick C milliseconds a b t p (inl late) = stays C a b late.1 p
+refuses_tick C milliseconds a b t p (inr r) = refuses C _ a b r p
+
+refuses_deed : (C : Config) (it : Deed) (a b : Stand Core) → RefusesDeed core_face it a b → StandsFor C a → StandsBefore C b
+refuses_deed C (deed.Comes client from to) a b r p = refuses_accept C r.number from to.name a b r.refuses p
+refuses_deed C (deed.Does side client it) a b r p = refuses_peer C side client it a b r p
+refuses_deed C (deed.Meets server meeting) a b never p = absurd never
+refuses_deed C (deed.Marks pool member up) a b r p = refuses C _ a b r p
+refuses_deed C (deed.Waits milliseconds) a b r p = refuses_tick C milliseconds a b r p r.refuses
+
+refuses_some : (C : Config) (it : Option Deed) (a b : Stand Core) → RefusesSome core_face it a b → StandsFor C a → StandsBefore C b
+refuses_some C None a b is p = stays C a b is p
+refuses_some C (Some it) a b r p = refuses_deed C it a b r p
+
+refuses_unless : (C : Config) (dropped : Bool) (sending : SendingText) (sender : SendingSide) (conn : ℕ) (bytes : List ℕ) (a b : Stand Core)
+    → RefusesUnless dropped core_face sending sender conn bytes a b → StandsFor C a → StandsBefore C b
+refuses_unless C true sending sender conn bytes a b never p = absurd never
+refuses_unless C false sending sender conn bytes a b r p =
+    refuses C _ _ b r (record { past = p.past; state = p.state; represents = p.represents; events = p.events })
+
+refuses_piece : (C : Config) (sending : SendingText) (sender : SendingSide) (conn : Option ℕ) (bytes : List ℕ) (a b : Stand Core)
+    → RefusesPiece core_face sending sender conn bytes a b → StandsFor C a → StandsBefore C b
+refuses_piece C sending sender None bytes a b is p = stays C a b is p
+refuses_piece C sending sender (Some conn) bytes a b r p = refuses_unless C _ sending sender conn bytes a b r p
+
+refuses_sending : (C : Config) (sending : SendingText) (sender : Option SendingSide) (bytes : List ℕ) (a b : Stand Core)
+    → RefusesSending core_face sending sender bytes a b → StandsFor C a → StandsBefore C b
+refuses_sending C sending None bytes a b is p = stays C a b is p
+refuses_sending C sending (Some sender) bytes a b r p = refuses_piece C sending sender _ bytes a b r p
+
+refuses_move : (C : Config) (steps : List PlacedStep) (one : TestMove) (a b : Stand Core) → RefusesMove core_face steps one a b
+    → StandsFor C a → StandsBefore C b
+refuses_move C steps (move.Does number at) a b r p = refuses_some C (deed_at steps number at) a b r p
+refuses_move C steps (move.Sends number at bytes) a b r p = refuses_sending C _ (sender_at steps number at) bytes a b r p
+refuses_move C steps move.Rests a b r p = refuses_due C r.it r.between b r.refuses (goes C r.goes (quiet C a entry.Rests refl p))
+refuses_move C steps (move.Asks number) a b never p = absurd never
+
+restless : (C : Config) (one : TestMove) (a b : Stand Core) → RestlessMove core_face one a b → StandsFor C a → StandsFor C b
+restless C (move.Does number at) a b never p = absurd never
+restless C (move.Sends number at bytes) a b never p = absurd never
+restless C move.Rests a b r p = goes C r.goes (quiet C a entry.Rests refl p)
+restless C (move.Asks number) a b never p = absurd never
+
+-- ---- all moves
+
+kept : (C : Config) (b : Stand Core) → StandsFor C b → IsPromised C b
+kept C b p = record {
+  past = p.past;
+  state = p.state;
+  represents = p.represents;
+  events = p.events;
+  matches = every_past_matches C p.past p.state p.represents.sound.leads;
+}
+
+kept_before : (C : Config) (b : Stand Core) → StandsBefore C b → IsPromisedBefore C b
+kept_before C b p = record {
+  past = p.past;
+  state = p.state;
+  core = p.core;
+  represents = p.represents;
+  last = p.last;
+  events = p.events;
+  refused = p.refused;
+  matches = every_past_matches C p.past p.state p.represents.sound.leads;
+}
+
+pub promised : (C : Config) (steps : List PlacedStep) (moves : List TestMove) (end : RunEnd) (a b : Stand Core) → StandsFor C a
+    → RunEnds core_face steps moves end a b → PromisedAt C end b
+promised C steps moves run_end.Done a b p made = kept C b (follows C steps made p)
+promised C steps moves (run_end.Refused step) a b p k = kept_before C b (refuses_move C steps k.one k.between b k.ends (follows C steps k.follows p))
+promised C steps moves (run_end.Restless step) a b p k = kept C b (restless C k.one k.between b k.ends (follows C steps k.follows p))
 
 pub ran_by : (C : Config) (steps : List PlacedStep) (moves : List TestMove) (start : Core) (run : TestRun Core) (notes : List Note)
     → Represents C [] no_connections start → notes ≡ init_notes C → stand run ≡ started start notes → (done : RunDone)
     → Followed run steps moves done → Ran C steps moves done
 ran_by C steps moves start run notes stands is at done followed =
     let begins : stand run ≡ started start (init_notes C) = at ∙ ap (started start) is in
-    let follows : (done.end ≡ Done → Follows core_face steps moves (started start (init_notes C)) (stand done.run))
-    = λ e. subst (λ s. Follows core_face steps moves s (stand done.run)) begins (followed e) in
+    let ends : RunEnds core_face steps moves done.end (started start (init_notes C)) (stand done.run)
+    = subst (λ s. RunEnds core_face steps moves done.end s (stand done.run)) begins followed in
     record {
       start = start;
       stands = stands;
-      follows = follows;
-      promised = λ e. promised C steps moves (started start (init_notes C)) (stand done.run) (of_notes (init_notes C)) stands (follows e);
+      follows = ends;
+      promised = promised C steps moves done.end (started start (init_notes C)) (stand done.run)
+          (record { past = []; state = no_connections; represents = stands; events = of_notes (init_notes C) }) ends;
     }
 
 pub if_ok_then : {A E : Type 0} (r : Result A E) (P Q : A → Type 0) → ((x : A) → P x → Q x) → IfOk r P → IfOk r Q
