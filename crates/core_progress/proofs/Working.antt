@@ -1,5 +1,5 @@
 -- Each Run or Turn that finds something to do gives something, or leaves less to do.
-use Rattle.std.proofs.Common.{◌≡◌, ◌⊎◌, inl, inr, refl, sym, ap, subst, ◌∙◌, ℕ, zero, suc, ◌+◌, ◌-◌, ◌*◌, ◌≤◌, List, [], ◌∷◌, ◌++◌, append-nil, length, Bool, true, false, Option, nat_eq, if◌then◌else◌, arith}
+use Rattle.std.proofs.Common.{◌≡◌, ◌⊎◌, inl, inr, refl, sym, subst, ℕ, suc, ◌+◌, ◌-◌, ◌*◌, ◌≤◌, List, [], ◌∷◌, ◌++◌, length, Bool, true, false, Option, nat_eq, if◌then◌else◌, arith}
 use Rattle.std.specs.Bool.{MatchBool}
 use Rattle.std.proofs.lemmas.Bool.Decides.{nat_tests}
 use Rattle.std.proofs.lemmas.List.{length-append}
@@ -19,7 +19,6 @@ use Rattle.conn.specs.Servers.{run_notes}
 use Rattle.conn.specs.declared.turn.ConnTurn.{ConnTurn}
 use Rattle.conn.specs.declared.turn.ConnTurn.TheVariants as turn
 use Rattle.proxy_core.specs.Calls.{queue_behind, sleeps}
-use Rattle.proxy_core.specs.Headline.{IsSettled}
 use Rattle.proxy_core.specs.Moves.{MovesQueue, MovesRing, MovesBy, RunsFailed, RunsOn, RunsOut, asleep_behind, ran}
 use Rattle.proxy_core.specs.Ready.{is_in, ring_behind, with_ready}
 use Rattle.proxy_core.specs.Scheduler.{State, untaken_all}
