@@ -13,7 +13,7 @@ returns-in_default-clause-stops g c =
     let s = c.args.schedule.now in
     let old = c.args.self.now in
     let before : Config → Option (List ℕ) → Type 0 = λ C told. Stands C [] 0 old.core old.taken.items old.events told (g.K.Sink.written c.args.out.now) in
-    stops_unended s l.at l.line l.self.core l.self.taken.items l.self.events (g.K.Sink.written l.out) before c.last_kind.result (omega (arith, c.loop-at-test.true)) (placed l.at s _ _ c.line_len.ensures.place c.in_default.is) c.last_kind.ensures.skipped c.last_kind.ensures.not_skipped l.invariant.stands
+    stops_unended s l.at l.line l.self.core l.self.taken.items l.self.events (g.K.Sink.written l.out) before c.last_kind-kind.result (omega (arith, c.loop-at-test.true)) (placed l.at s _ _ c.line_len.ensures.place c.in_default.is) c.last_kind-kind.ensures.skipped c.last_kind-kind.ensures.not_skipped l.invariant.stands
 
 pub line-requires-clause-is_line : goal.line-requires-clause-is_line
 line-requires-clause-is_line g c =
