@@ -11,7 +11,7 @@ use Rattle.proxy.specs.declared.taken.Taken.{Taken}
 use Rattle.journal_text.specs.Line.{IsSkipped}
 use Rattle.journal_text.specs.declared.line_kind.LineKind.{LineKind}
 use Rattle.journal_text.specs.declared.line_kind.LineKind.TheVariants.{NoNewline}
-use Rattle.proxy.specs.Lines.{Faulty, Unended, Unends, NoEvent, unended_kind}
+use Rattle.proxy.specs.Lines.{Faulty, Unended, NoEvent, unended_kind}
 use Rattle.proxy.specs.Stops.{with_line, StoppedAtLine, Stopped}
 use Rattle.proxy.specs.Written.{Stands}
 use Rattle.proxy.proofs.LineCuts.{is_lf, cut, no_lf, next_line}

@@ -1,5 +1,5 @@
 -- When a command comes to its whole text.
-use Rattle.std.specs.Prelude.{◌≡◌, ◌⊎◌, ℕ, List, ◌++◌, Option, Some, None, IsSome}
+use Rattle.std.specs.Prelude.{◌≡◌, ◌⊎◌, ℕ, List, Option, Some, None, IsSome}
 use Rattle.config.specs.Documents.{document_fault, items_at}
 use Rattle.config.specs.Keys.{rules, rule_text}
 use Rattle.config.specs.Loading.{file_name}
