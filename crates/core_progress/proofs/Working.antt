@@ -76,8 +76,8 @@ same_number c = grind (arith, nat_tests)
 gave_so : (c slices : ℕ) (rest ring : List ℕ) (queue : List Asked) (asleep : Option Asleep) (more : List Item) (old : State) → front_gave (c ∷ rest) old (ran c ring queue asleep more slices old) ≡ length more + slices
 gave_so c slices rest ring queue asleep more old =
     let by : (b : Bool) → b ≡ true → (length (if b then old.places c ++ more else old.places c) - length (old.places c)) + ((if b then old.spent c + slices else old.spent c) - old.spent c) ≡ length more + slices
-        = λ b is. subst (λ b. (length (if b then old.places c ++ more else old.places c) - length (old.places c)) + ((if b then old.spent c + slices else old.spent c) - old.spent c) ≡ length more + slices) (sym is)
-          (let k = length-append (old.places c) more in omega (arith, k)) in
+    = λ b is. subst (λ b. (length (if b then old.places c ++ more else old.places c) - length (old.places c)) + ((if b then old.spent c + slices else old.spent c) - old.spent c) ≡ length more + slices) (sym is)
+    (let k = length-append (old.places c) more in omega (arith, k)) in
     by (nat_eq c c) (same_number c)
 
 -- a Run of a ring leaves less to do, but for what it gave

@@ -77,7 +77,12 @@ pub stops_unended : (s : List ℕ) (at line : ℕ) (core : Core) (taken : List T
 stops_unended s at line core taken events now Before kind below e skipped bare st C told h =
     let whole = take_rest s at in
     record {
-      text = take at s; rest = drop at s; schedule_is = split at s; number = line; line_is = refl; stands = st C told h;
+      text = take at s;
+      rest = drop at s;
+      schedule_is = split at s;
+      number = line;
+      line_is = refl;
+      stands = st C told h;
       faulty = Unended (drop at s) kind (no_lf (drop at s) e) (λ none. not_empty at s below none) (record {
         skipped = subst (λ t. IsSkipped t → kind ≡ NoNewline) whole skipped;
         not_skipped = subst (λ t. (IsSkipped t → ⊥) → kind ≡ unended_kind t) whole bare;
