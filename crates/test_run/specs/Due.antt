@@ -123,7 +123,6 @@ abbrev pub made_if : (taken : Bool) → MoveEnd
 made_if true = Made
 made_if false = Refused
 
-
 -- the most events of one rest
 abbrev pub most_events : ℕ
 most_events = 1048576

@@ -9,9 +9,11 @@ loop-init g c = (Stays, refl, omega arith)
 
 pub loop-preserved : goal.loop-preserved
 loop-preserved g c =
-    let taken : IsTrue c.in_ok-do_due.field-0 = search rules in
-    (Then (stand c.loop.self) c.in-Some.due c.loop.invariant.0 c.in-Some.ensures.some (c.in_ok-do_due.ensures.does taken),
-    ap (λ n. n + 1) c.loop.invariant.1, omega (arith, c.loop-test.true))
+    let taken : IsTrue c.in_ok-do_due.field-0 = search rules in (
+      Then (stand c.loop.self) c.in-Some.due c.loop.invariant.0 c.in-Some.ensures.some (c.in_ok-do_due.ensures.does taken),
+      ap (λ n. n + 1) c.loop.invariant.1,
+      omega (arith, c.loop-test.true),
+    )
 
 pub returns-then-not-branch : goal.returns-then-not-branch
 returns-then-not-branch g c =
