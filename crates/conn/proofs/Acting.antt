@@ -21,16 +21,16 @@ use Rattle.conn_trace.specs.Places.{finish}
 use Rattle.conn_trace.specs.Places as model
 use Rattle.conn_trace.specs.Trace.{cut_takes, next_item, Unfolds, GivesNoMore}
 use Rattle.core_events.specs.declared.note.CutReason.{CutReason}
-use Rattle.core_events.specs.declared.note.CutReason.TheVariants.{ClientReset, ServerReset}
+use Rattle.core_events.specs.declared.note.CutReason.TheVariants.{ClientReset, Idle, ServerReset}
 use Rattle.core_events.specs.declared.note.Note.{Note}
 use Rattle.core_events.specs.declared.note.Note.TheVariants as note
 use Rattle.conn_trace.proofs.Given.{sent_counted}
 use Rattle.frames.specs.Went.{effects_in}
-use Rattle.conn.specs.Acts.{Rests, RestsBy, WaitsFor, cut_of, is_server, server_cuts}
+use Rattle.conn.specs.Acts.{Rests, RestsBy, WaitsFor, cut_of, idle_cut, is_server, server_cuts}
 use Rattle.conn.specs.Acts.{cut_by as code_cut}
 use Rattle.conn.specs.Changes.{Closes}
 use Rattle.conn.specs.Ends.{connects_by, has_stream, is_taken, is_up, link_by, sent_here, server_by}
-use Rattle.conn.specs.Holds.{Around, Between, Holds, HoldsEnds, Stands}
+use Rattle.conn.specs.Holds.{Around, Between, Holds, HoldsEnds, Outside, Stands, outside}
 use Rattle.conn.specs.Hosts.{SendsWhere, Told, client_bytes, logs_of, seen_host, server_bytes}
 use Rattle.conn.specs.RunsItems.{cut_due, is_cut, licenses}
 use Rattle.conn.specs.Servers.{queue_at_server}
@@ -59,7 +59,7 @@ use Rattle.conn.proofs.Places.{GoneTo, closes_gone, link_is}
 abbrev pub ActStops : Setup → Around → TraceState → Conn → code.Act → Type 0
 ActStops g a at new done.Goes = is_asking new.stage ≡ false
 ActStops g a at new (done.Asks call) = next_item g at ≡ Waits (ForReply call)
-ActStops g a at new done.Rests = GivesNoMore false at.sent a.took (next_item g at) × ((is_cut g a.took at ≡ false) × (is_in_body new.stage ≡ false))
+ActStops g a at new done.Rests = GivesNoMore false at.sent a.took (next_item g at) × ((is_cut g (outside a) at ≡ false) × (is_in_body new.stage ≡ false))
 
 -- the call that it made
 abbrev pub asked_by : code.Act → List (List (List ℕ))
@@ -85,7 +85,7 @@ gone_holds g a fin p l ends new k is h no_choice no_cut = record {
 }
 
 -- nothing is given
-pub stays : (g : Setup) (a : Around) (l : TraceState) (c : ℕ) (old new : Conn) (did : code.Act) → Holds g a l old → is_in_body old.stage ≡ false → did ≡ done.Rests → new ≡ old → GivesNoMore false l.sent a.took (next_item g l) → is_cut g a.took l ≡ false → ActGave g a l c old new [] did
+pub stays : (g : Setup) (a : Around) (l : TraceState) (c : ℕ) (old new : Conn) (did : code.Act) → Holds g a l old → is_in_body old.stage ≡ false → did ≡ done.Rests → new ≡ old → GivesNoMore false l.sent a.took (next_item g l) → is_cut g (outside a) l ≡ false → ActGave g a l c old new [] did
 stays g a l c old new did h quiet rests same stops kept =
     subst (λ x. ActGave g a l c old x [] did) (sym same) (subst (λ x. ActGave g a l c old old [] x) (sym rests) (record { at = l; gave = gave_none g a l c old h; stops = (stops, (kept, quiet)) }))
 
@@ -154,19 +154,23 @@ client_ends : (b : Bool) → ends_rests b ClientReset ≡ true
 client_ends true = refl
 client_ends false = refl
 
+pub idle_ends : (b : Bool) → ends_rests b Idle ≡ true
+idle_ends true = refl
+idle_ends false = refl
+
 not_over : (o : Next) → plain_rest o ≡ true → o ≡ Over → ⊥
 not_over o p over = let x = sym p ∙ ap plain_rest over in cc
 
 -- a rest that isn't over is ended by such a cut
-rest_ends : (g : Setup) (reason : CutReason) (took : TakenCounts) (sent : Counts) (o : Next) → ends_rests g.http reason ≡ true → GivesNoMore false sent took o → (o ≡ Over → ⊥) → takes_cut g (cut_by reason took) sent o ≡ true
+pub rest_ends : (g : Setup) (reason : CutReason) (took : TakenCounts) (sent : Counts) (o : Next) → ends_rests g.http reason ≡ true → GivesNoMore false sent took o → (o ≡ Over → ⊥) → takes_cut g (cut_by reason took) sent o ≡ true
 rest_ends g reason took sent o ends rest open_yet = ⊎_elim (λ t. t) (λ over. absurd (open_yet over)) (rest_is_cut_also g (cut_by reason took) sent o ends rest)
 
 -- what isn't licensed isn't due, nor where it has finished
-pub finished_uncut : (g : Setup) (took : TakenCounts) (l : TraceState) → l.finished ≡ true → is_cut g took l ≡ false
-finished_uncut g took l f = ap (λ x. x || cut_due g ServerReset took l) (one ClientReset) ∙ one ServerReset
+pub finished_uncut : (g : Setup) (o : Outside) (l : TraceState) → l.finished ≡ true → is_cut g o l ≡ false
+finished_uncut g o l f = ap (λ x. x || (cut_due g ServerReset o l || cut_due g Idle o l)) (one ClientReset) ∙ ap (λ x. x || cut_due g Idle o l) (one ServerReset) ∙ one Idle
   where
-    one : (r : CutReason) → cut_due g r took l ≡ false
-    one r = ap (λ b. licenses r l took && (not b && takes_cut g (cut_by r took) l.sent (next_item g l))) f ∙ and_none (licenses r l took)
+    one : (r : CutReason) → cut_due g r o l ≡ false
+    one r = ap (λ b. licenses r l o && (not b && takes_cut g (cut_by r o.took) l.sent (next_item g l))) f ∙ and_none (licenses r l o)
 
 module _ (s : code_setup.Setup) (g : Setup) (serves : Serves s g) (a : Around) (l : TraceState) (c : ℕ) (old new : Conn) (h : Holds g a l old) (b : Between l old) where
   -- where it stands once it has finished
@@ -193,7 +197,7 @@ module _ (s : code_setup.Setup) (g : Setup) (serves : Serves s g) (a : Around) (
       record { at = closed_at; gave = subst (λ x. Gave g a l closed_at c old new (note.Finish c x ∷ []) []) (cause_is f) gave; stops = gone.awake }
 
   -- a cut at a rest finishes it
-  cut_gave : (reason : CutReason) → takes_cut g (cut_by reason a.took) l.sent (next_item g l) ≡ true → Closes s old new → l.finished ≡ false → GivesNoMore false l.sent a.took (next_item g l) → licenses reason l a.took ≡ true → ActGave g a l c old new (note.Finish c (cause_for (finish.Cut reason)) ∷ []) done.Goes
+  cut_gave : (reason : CutReason) → takes_cut g (cut_by reason a.took) l.sent (next_item g l) ≡ true → Closes s old new → l.finished ≡ false → GivesNoMore false l.sent a.took (next_item g l) → licenses reason l (outside a) ≡ true → ActGave g a l c old new (note.Finish c (cause_for (finish.Cut reason)) ∷ []) done.Goes
   cut_gave reason takes k going rest licensed =
       let gone = closing k in
       let i = Finished (CutBy reason) in
@@ -213,7 +217,7 @@ module _ (s : code_setup.Setup) (g : Setup) (serves : Serves s g) (a : Around) (
                   split = ap (λ x. Finished (CutBy x) ∷ []) same;
                   passed = longer_nothing l h.no_cut;
                   rests = rest;
-                  licensed = ap (λ x. licenses x l a.took) (sym same) ∙ licensed;
+                  licensed = ap (λ x. licenses x l (outside a)) (sym same) ∙ licensed;
                 });
           };
           holds = closed_holds k;
@@ -234,7 +238,7 @@ module _ (s : code_setup.Setup) (g : Setup) (serves : Serves s g) (a : Around) (
       by_cut r is = let same : cut_by reason a.took ≡ cut_by r a.took = cc in ap (λ x. x.reason) same
 
   -- the server's reset licenses one while its connection is up
-  server_licenses : licenses ServerReset l a.took ≡ (is_up old.ends.link && old.ends.server.reset)
+  server_licenses : licenses ServerReset l (outside a) ≡ (is_up old.ends.link && old.ends.server.reset)
   server_licenses = ap (λ k. model.is_up k && is_reset l.sent a.took Server) (link_is a l old.ends h.ends) ∙ by_link old.ends.link refl
     where
       by_link : (k : Link) → old.ends.link ≡ k → (model.is_up (link_by k) && is_reset l.sent a.took Server) ≡ (is_up k && old.ends.server.reset)
@@ -246,23 +250,23 @@ module _ (s : code_setup.Setup) (g : Setup) (serves : Serves s g) (a : Around) (
       by_link link.Made e = refl
       by_link link.GivenUp e = refl
 
-  client_licenses : licenses ClientReset l a.took ≡ old.ends.client.reset
+  client_licenses : licenses ClientReset l (outside a) ≡ old.ends.client.reset
   client_licenses = client_reset a l old.ends h.ends
 
   -- no cut is due where none is taken
-  uncut_at : (waits : Bool) → (waits ≡ false → plain_rest (next_item g l) ≡ true) → code_cut waits old ≡ None → is_cut g a.took l ≡ false
+  uncut_at : (waits : Bool) → (waits ≡ false → plain_rest (next_item g l) ≡ true) → code_cut waits old ≡ None → is_cut g (outside a) l ≡ false
   uncut_at waits plain none = by_finished (has_finished old.stage) h.finished none
     where
       takes : CutReason → Bool
       takes r = takes_cut g (cut_by r a.took) l.sent (next_item g l)
 
       -- a flag by flag
-      server_due : (up reset http : Bool) → licenses ServerReset l a.took ≡ (up && reset) → is_some old.host.http ≡ http → (up && (reset && (waits || not http))) ≡ false → cut_due g ServerReset a.took l ≡ false
+      server_due : (up reset http : Bool) → licenses ServerReset l (outside a) ≡ (up && reset) → is_some old.host.http ≡ http → (up && (reset && (waits || not http))) ≡ false → cut_due g ServerReset (outside a) l ≡ false
       server_due false reset http e f n = ap (λ b. b && cut_is_taken g (cut_by ServerReset a.took) l) e
       server_due true false http e f n = ap (λ b. b && cut_is_taken g (cut_by ServerReset a.took) l) e
       server_due true true http e f n =
           let stays = server_stays g a.took (sym h.told.spoken ∙ f ∙ spoken http n) l.sent (next_item g l) (plain (still http n)) in
-          ap (λ b. licenses ServerReset l a.took && (not l.finished && b)) stays ∙ ap (λ b. licenses ServerReset l a.took && b) (and_none (not l.finished)) ∙ and_none (licenses ServerReset l a.took)
+          ap (λ b. licenses ServerReset l (outside a) && (not l.finished && b)) stays ∙ ap (λ b. licenses ServerReset l (outside a) && b) (and_none (not l.finished)) ∙ and_none (licenses ServerReset l (outside a))
         where
           spoken : (x : Bool) → (waits || not x) ≡ false → x ≡ true
           spoken true n = refl
@@ -279,46 +283,56 @@ module _ (s : code_setup.Setup) (g : Setup) (serves : Serves s g) (a : Around) (
               by_waits true n = absurd (true≢false n)
               by_waits false n = refl
 
-      by_server : (b : Bool) → server_cuts waits old ≡ b → (if b then Some ServerReset else None) ≡ None → cut_due g ServerReset a.took l ≡ false
+      by_idle : (b : Bool) → old.ends.idle ≡ b → (if b then Some Idle else None) ≡ None → cut_due g Idle (outside a) l ≡ false
+      by_idle true e n = absurd (let x = n in cc)
+      by_idle false e n = ap (λ x. x && cut_is_taken g (cut_by Idle a.took) l) (h.ends.idle ∙ e)
+
+      by_server : (b : Bool) → server_cuts waits old ≡ b → (if b then Some ServerReset else idle_cut old) ≡ None → (cut_due g ServerReset (outside a) l || cut_due g Idle (outside a) l) ≡ false
       by_server true e n = absurd (let x = n in cc)
-      by_server false e n = server_due (is_up old.ends.link) old.ends.server.reset (is_some old.host.http) server_licenses refl e
+      by_server false e n = ap (λ x. x || cut_due g Idle (outside a) l) (server_due (is_up old.ends.link) old.ends.server.reset (is_some old.host.http) server_licenses refl e) ∙ by_idle old.ends.idle refl n
 
-      by_client : (b : Bool) → old.ends.client.reset ≡ b → (if b then Some ClientReset else (if server_cuts waits old then Some ServerReset else None)) ≡ None → is_cut g a.took l ≡ false
+      by_client : (b : Bool) → old.ends.client.reset ≡ b → (if b then Some ClientReset else (if server_cuts waits old then Some ServerReset else idle_cut old)) ≡ None → is_cut g (outside a) l ≡ false
       by_client true e n = absurd (let x = n in cc)
-      by_client false e n = ap (λ x. (x && cut_is_taken g (cut_by ClientReset a.took) l) || cut_due g ServerReset a.took l) (client_licenses ∙ e) ∙ by_server (server_cuts waits old) refl n
+      by_client false e n = ap (λ x. (x && cut_is_taken g (cut_by ClientReset a.took) l) || (cut_due g ServerReset (outside a) l || cut_due g Idle (outside a) l)) (client_licenses ∙ e) ∙ by_server (server_cuts waits old) refl n
 
-      by_finished : (b : Bool) → l.finished ≡ b → (if b then None else (if old.ends.client.reset then Some ClientReset else (if server_cuts waits old then Some ServerReset else None))) ≡ None → is_cut g a.took l ≡ false
-      by_finished true f n = finished_uncut g a.took l f
+      by_finished : (b : Bool) → l.finished ≡ b → (if b then None else (if old.ends.client.reset then Some ClientReset else (if server_cuts waits old then Some ServerReset else idle_cut old))) ≡ None → is_cut g (outside a) l ≡ false
+      by_finished true f n = finished_uncut g (outside a) l f
       by_finished false f n = by_client old.ends.client.reset refl n
 
   -- and one that is taken is due
   abbrev Due : (waits : Bool) → CutReason → Type 0
-  Due waits reason = (l.finished ≡ false) × (licenses reason l a.took ≡ true) × ((reason ≡ ClientReset) ⊎ ((reason ≡ ServerReset) × ((waits ≡ true) ⊎ (g.http ≡ false))))
+  Due waits reason = (l.finished ≡ false) × (licenses reason l (outside a) ≡ true) × ((ends_rests g.http reason ≡ true) ⊎ ((reason ≡ ServerReset) × ((waits ≡ true) ⊎ (g.http ≡ false))))
 
   due_at : (waits : Bool) (reason : CutReason) → code_cut waits old ≡ Some reason → Due waits reason
   due_at waits reason some = by_finished (has_finished old.stage) h.finished some
     where
-      by_flags : (up reset y http : Bool) → licenses ServerReset l a.took ≡ (up && reset) → waits ≡ y → is_some old.host.http ≡ http → (up && (reset && (y || not http))) ≡ true → (licenses ServerReset l a.took ≡ true) × ((waits ≡ true) ⊎ (g.http ≡ false))
+      by_flags : (up reset y http : Bool) → licenses ServerReset l (outside a) ≡ (up && reset) → waits ≡ y → is_some old.host.http ≡ http → (up && (reset && (y || not http))) ≡ true → (licenses ServerReset l (outside a) ≡ true) × ((waits ≡ true) ⊎ (g.http ≡ false))
       by_flags true true true http e w f t = (e, inl w)
       by_flags true true false false e w f t = (e, inr (sym h.told.spoken ∙ f))
       by_flags true true false true e w f t = absurd (true≢false (sym t))
       by_flags true false y http e w f t = absurd (true≢false (sym t))
       by_flags false reset y http e w f t = absurd (true≢false (sym t))
 
-      by_server : l.finished ≡ false → (b : Bool) → server_cuts waits old ≡ b → (if b then Some ServerReset else None) ≡ Some reason → Due waits reason
+      by_idle : l.finished ≡ false → (b : Bool) → old.ends.idle ≡ b → (if b then Some Idle else None) ≡ Some reason → Due waits reason
+      by_idle f true e n =
+          let same : Idle ≡ reason = cc in
+          (f, ap (λ r. licenses r l (outside a)) (sym same) ∙ h.ends.idle ∙ e, inl (ap (ends_rests g.http) (sym same) ∙ idle_ends g.http))
+      by_idle f false e n = absurd (let x = n in cc)
+
+      by_server : l.finished ≡ false → (b : Bool) → server_cuts waits old ≡ b → (if b then Some ServerReset else idle_cut old) ≡ Some reason → Due waits reason
       by_server f true e n =
           let same : ServerReset ≡ reason = cc in
           let k = by_flags (is_up old.ends.link) old.ends.server.reset waits (is_some old.host.http) server_licenses refl refl e in
-          (f, ap (λ r. licenses r l a.took) (sym same) ∙ k.0, inr (sym same, k.1))
-      by_server f false e n = absurd (let x = n in cc)
+          (f, ap (λ r. licenses r l (outside a)) (sym same) ∙ k.0, inr (sym same, k.1))
+      by_server f false e n = by_idle f old.ends.idle refl n
 
-      by_client : l.finished ≡ false → (b : Bool) → old.ends.client.reset ≡ b → (if b then Some ClientReset else (if server_cuts waits old then Some ServerReset else None)) ≡ Some reason → Due waits reason
+      by_client : l.finished ≡ false → (b : Bool) → old.ends.client.reset ≡ b → (if b then Some ClientReset else (if server_cuts waits old then Some ServerReset else idle_cut old)) ≡ Some reason → Due waits reason
       by_client f true e n =
           let same : ClientReset ≡ reason = cc in
-          (f, ap (λ r. licenses r l a.took) (sym same) ∙ client_licenses ∙ e, inl (sym same))
+          (f, ap (λ r. licenses r l (outside a)) (sym same) ∙ client_licenses ∙ e, inl (ap (ends_rests g.http) (sym same) ∙ client_ends g.http))
       by_client f false e n = by_server f (server_cuts waits old) refl n
 
-      by_finished : (b : Bool) → l.finished ≡ b → (if b then None else (if old.ends.client.reset then Some ClientReset else (if server_cuts waits old then Some ServerReset else None))) ≡ Some reason → Due waits reason
+      by_finished : (b : Bool) → l.finished ≡ b → (if b then None else (if old.ends.client.reset then Some ClientReset else (if server_cuts waits old then Some ServerReset else idle_cut old))) ≡ Some reason → Due waits reason
       by_finished true f n = absurd (let x = n in cc)
       by_finished false f n = by_client f old.ends.client.reset refl n
 
@@ -327,8 +341,8 @@ module _ (s : code_setup.Setup) (g : Setup) (serves : Serves s g) (a : Around) (
       → ActGave g a l c old new (rest_group c (code_cut waits old)) did
   rests_by waits before after did quiet rest open_yet plain awaits k = by_cut (code_cut waits old) refl k
     where
-      ends : (reason : CutReason) → ((reason ≡ ClientReset) ⊎ ((reason ≡ ServerReset) × ((waits ≡ true) ⊎ (g.http ≡ false)))) → takes_cut g (cut_by reason a.took) l.sent (next_item g l) ≡ true
-      ends reason (inl is) = rest_ends g reason a.took l.sent (next_item g l) (ap (ends_rests g.http) is ∙ client_ends g.http) rest open_yet
+      ends : (reason : CutReason) → ((ends_rests g.http reason ≡ true) ⊎ ((reason ≡ ServerReset) × ((waits ≡ true) ⊎ (g.http ≡ false)))) → takes_cut g (cut_by reason a.took) l.sent (next_item g l) ≡ true
+      ends reason (inl is) = rest_ends g reason a.took l.sent (next_item g l) is rest open_yet
       ends reason (inr (is, inl w)) = ap (λ r. takes_cut g (cut_by r a.took) l.sent (next_item g l)) is ∙ ap (takes_cut g (cut_by ServerReset a.took) l.sent) (awaits w) ∙ waiting_ends g a.took l.sent
       ends reason (inr (is, inr p)) = rest_ends g reason a.took l.sent (next_item g l) (ap (ends_rests g.http) is ∙ ap (λ b. ends_rests b ServerReset) p) rest open_yet
 
@@ -435,6 +449,7 @@ queued_ends a l at e es h first client server connects to_client to_server numbe
       ap (λ n. untaken n (taken_of a.took.servers at.sent.number)) same ∙ ap (λ n. untaken l.sent.server (taken_of a.took.servers n)) number ∙ h.took_all away);
   nothing_came = λ away. ap (λ b. queue_end b e.server) (none (not_there e.link away)) ∙ ap (λ q. record e.server { queued = q }) (append-nil e.server.queued) ∙ h.nothing_came away;
   connecting = h.connecting;
+  idle = h.idle;
 }
   where
     none : is_up e.link ≡ false → server_bytes es ≡ []

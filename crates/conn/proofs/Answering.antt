@@ -14,7 +14,7 @@ use Rattle.conn_trace.specs.Trace.{GivesNoMore, next_item}
 use Rattle.conn_trace.proofs.Unfolding.{unfolds_one}
 use Rattle.conn.specs.Acts.{Rests, SendsClient, TellsToGoOn, client_room, cut_of}
 use Rattle.conn.specs.Ends.{link_by, sent_here}
-use Rattle.conn.specs.Holds.{Around, Between, Holds, HoldsEnds, Stands}
+use Rattle.conn.specs.Holds.{Around, Between, Holds, HoldsEnds, Stands, outside}
 use Rattle.conn.specs.Hosts.{seen_host}
 use Rattle.conn.specs.Relaying.{queue_end}
 use Rattle.conn.specs.Setups.{Serves}
@@ -53,6 +53,7 @@ client_sent a l at e bytes h client server connects to_client to_server number =
   took_all = λ away. ap (λ n. untaken n (taken_of a.took.servers at.sent.number)) to_server ∙ ap (λ n. untaken l.sent.server (taken_of a.took.servers n)) number ∙ h.took_all away;
   nothing_came = h.nothing_came;
   connecting = h.connecting;
+  idle = h.idle;
 }
 
 -- an item that sends bytes to the client, and nothing else
@@ -69,7 +70,7 @@ pub gave_bytes : (g : Setup) (a : Around) (l at : TraceState) (c : ℕ) (old new
     → new.ends ≡ record old.ends { client = queue_end bytes old.ends.client } → (l.finished ≡ true → at.finished ≡ true) → Gave g a l at c old new [] []
 gave_bytes g a l at c old new i bytes none only step may holds ends stays = record {
   more = i ∷ [];
-  passes = passes_one g a.took l at i none only.takes (unfolds_one g l at i step) (may, tt);
+  passes = passes_one g (outside a) l at i none only.takes (unfolds_one g l at i step) (may, tt);
   holds = holds;
   client_queue = ap (λ e. e.client.queued) ends ∙ ap (λ x. old.ends.client.queued ++ x) (sym (ap (λ x. x ++ []) only.client ∙ append-nil bytes));
   servers = ap queue_at_server ends ∙ sym (only.along (queue_at_server old.ends));

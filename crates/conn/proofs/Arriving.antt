@@ -129,6 +129,7 @@ module _ (a : Around) (l : TraceState) (e : Ends) (h : HoldsEnds a l e) where
     took_all = h.took_all;
     nothing_came = h.nothing_came;
     connecting = h.connecting;
+    idle = h.idle;
   }
 
   pub with_server : (s : Stream) (v : ServerSide) (k : List (Option Stream)) (x : ConnectionEnd) → s ≡ l.client → v ≡ server_by e.link x → k ≡ connects_by e.link x → x.reset ≡ e.server.reset → x.queued ≡ e.server.queued → (has_stream e.link ≡ false → x ≡ fresh_end) → HoldsEnds a (changed s v k l) (record e { server = x })
@@ -145,6 +146,7 @@ module _ (a : Around) (l : TraceState) (e : Ends) (h : HoldsEnds a l e) where
     took_all = h.took_all;
     nothing_came = came;
     connecting = h.connecting;
+    idle = h.idle;
   }
 
   -- the outside was told of them
@@ -162,6 +164,7 @@ module _ (a : Around) (l : TraceState) (e : Ends) (h : HoldsEnds a l e) where
     took_all = h.took_all;
     nothing_came = h.nothing_came;
     connecting = λ is. h.connecting (same is);
+    idle = h.idle;
   }
 
 -- what comes of a server is put where its link says
@@ -334,6 +337,7 @@ resets_ends a l Client e h = record {
   took_all = h.took_all;
   nothing_came = h.nothing_came;
   connecting = h.connecting;
+  idle = h.idle;
 }
 resets_ends a l Server e h =
     let same = reset_same (has_stream e.link) e.link e.server in
@@ -351,6 +355,7 @@ resets_ends a l Server e h =
       took_all = λ away. none_untaken a.took.servers l.sent.number l.sent.server (h.took_all away);
       nothing_came = reset_fresh (has_stream e.link) e.server h.nothing_came;
       connecting = h.connecting;
+      idle = h.idle;
     }
 
 reset_link : (side : Side) (e : Ends) → (reset_ends side e).link ≡ e.link

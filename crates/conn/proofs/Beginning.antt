@@ -46,6 +46,7 @@ first_ends g h = record {
   took_all = λ e. omega arith;
   nothing_came = λ e. refl;
   connecting = λ e. absurd (cc);
+  idle = refl;
 }
 
 -- a host that knows nothing yet is as where its first event begins

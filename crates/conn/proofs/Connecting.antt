@@ -73,6 +73,7 @@ module _ (a : Around) (l : TraceState) (e : Ends) (h : HoldsEnds a l e) (asked :
     took_all = λ away. ap (untaken l.sent.server) (taken_front a.took.servers (Some 0 ∷ []) l.sent.number (omega (arith, made, taken))) ∙ h.took_all (ap is_taken asked);
     nothing_came = λ up. absurd (let t : true ≡ false = up in cc);
     connecting = λ is. absurd (let t : false ≡ true = is in cc);
+    idle = h.idle;
   }
   answers_ends false = record {
     client = h.client;
@@ -87,6 +88,7 @@ module _ (a : Around) (l : TraceState) (e : Ends) (h : HoldsEnds a l e) (asked :
     took_all = λ away. h.took_all (ap is_taken asked);
     nothing_came = λ up. fresh;
     connecting = λ is. absurd (let t : false ≡ true = is in cc);
+    idle = h.idle;
   }
 
 -- where a server was asked for, an answer fits as well

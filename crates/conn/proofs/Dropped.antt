@@ -110,6 +110,7 @@ client_read a l at n e h client server connects sent = record {
   took_all = λ away. ap (λ s. to_take s a.took Server) sent ∙ h.took_all away;
   nothing_came = h.nothing_came;
   connecting = h.connecting;
+  idle = h.idle;
 }
 
 -- the notes there

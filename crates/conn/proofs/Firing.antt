@@ -69,6 +69,7 @@ client_read a l n e h = record {
   took_all = h.took_all;
   nothing_came = h.nothing_came;
   connecting = h.connecting;
+  idle = h.idle;
 }
 
 server_read : (a : Around) (l : TraceState) (n : ℕ) (e : Ends) → HoldsEnds a l e → e.link ≡ link.Up → HoldsEnds a (fired_server n l) (read_ends Server n e)
@@ -85,6 +86,7 @@ server_read a l n e h up = record {
   took_all = h.took_all;
   nothing_came = λ away. absurd (true≢false (sym (ap has_stream up) ∙ away));
   connecting = h.connecting;
+  idle = h.idle;
 }
 
 module _ (s : code_setup.Setup) (g : Setup) (serves : Serves s g) (a : Around) (l : TraceState) (c : ℕ) (old new : Conn) (h : Holds g a l old) (b : Between l old) (going : l.finished ≡ false) where

@@ -22,7 +22,7 @@ use Rattle.conn.specs.Changes.{GoesTo, NextBody, StartsBody}
 use Rattle.conn.specs.Ends.{link_by}
 use Rattle.conn.specs.Events.{event_of, is_closed}
 use Rattle.conn.specs.Events.{is_closing as closes_at}
-use Rattle.conn.specs.Holds.{Around, Between, GatedBefore, Holds, Stands}
+use Rattle.conn.specs.Holds.{Around, Between, GatedBefore, Holds, Stands, outside}
 use Rattle.conn.specs.Hosts.{seen_host}
 use Rattle.conn.specs.Setups.{Serves}
 use Rattle.conn.specs.Stages.{InEvent as HostIn, at_fits, cause_for, fits, has_finished, is_asking, is_in_body, reason_for}
@@ -204,4 +204,4 @@ module _ (s : code_setup.Setup) (g : Setup) (serves : Serves s g) (a : Around) (
   pub drains : (did : step_act.Act) → old.stage ≡ stage.Draining → Stands g stage.Draining l old → did ≡ done.Rests → new ≡ old → ActGave g a l c old new [] did
   drains did is st rests same =
       let over : next_item g l ≡ Over = next_in g Draining (seen_host old.host) (link_by old.ends.link) l (stands_in _ st.0 st.1) in
-      stays g a l c old new did h (ap is_in_body is) rests same (subst (λ o. GivesNoMore false l.sent a.took o) (sym over) tt) (finished_uncut g a.took l (h.finished ∙ ap has_finished is))
+      stays g a l c old new did h (ap is_in_body is) rests same (subst (λ o. GivesNoMore false l.sent a.took o) (sym over) tt) (finished_uncut g (outside a) l (h.finished ∙ ap has_finished is))

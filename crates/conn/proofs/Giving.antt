@@ -15,7 +15,7 @@ use Rattle.conn_trace.specs.Trace.{next_item}
 use Rattle.conn_trace.proofs.Given.{sent_counted}
 use Rattle.conn_trace.proofs.Unfolding.{unfolds_one}
 use Rattle.conn.specs.Ends.{sent_here}
-use Rattle.conn.specs.Holds.{Around, Holds, HoldsEnds}
+use Rattle.conn.specs.Holds.{Around, Holds, HoldsEnds, outside}
 use Rattle.conn.specs.RunsItems.{Passes}
 use Rattle.conn.specs.Servers.{ServerQueue, closed_behind, queue_along, queue_at_server, queue_behind, run_notes}
 use Rattle.conn.specs.declared.connection.Conn.{Conn}
@@ -27,7 +27,7 @@ use Rattle.conn.proofs.Joining.{TakesNoCut, TakesNone, no_cut_on, none_on, passe
 -- and no cut, and they took none unless it has finished behind them.
 pub record Gave (g : Setup) (a : Around) (l at : TraceState) (c : ℕ) (old new : Conn) (group : List Note) (called : List (List (List ℕ))) : Type 0 where
   pub more : List Item
-  pub passes : Passes g a.took l more at
+  pub passes : Passes g (outside a) l more at
   pub holds : Holds g a at new
   pub client_queue : new.ends.client.queued ≡ old.ends.client.queued ++ client_output more
   pub servers : queue_at_server new.ends ≡ queue_along more (queue_at_server old.ends)
@@ -42,7 +42,7 @@ pub record Gave (g : Setup) (a : Around) (l at : TraceState) (c : ℕ) (old new 
 abbrev pub gave_none : (g : Setup) (a : Around) (l : TraceState) (c : ℕ) (old : Conn) → Holds g a l old → Gave g a l l c old old [] []
 gave_none g a l c old h = record {
   more = [];
-  passes = passes_none g a.took l h.no_cut;
+  passes = passes_none g (outside a) l h.no_cut;
   holds = h;
   client_queue = sym (append-nil old.ends.client.queued);
   servers = refl;
@@ -67,7 +67,7 @@ other_way false y f e = refl
 abbrev pub gave_more : (g : Setup) (a : Around) (l m at : TraceState) {called : List (List (List ℕ))} (c : ℕ) (old mid new : Conn) (first second : List Note) → l.answers.cut ≡ None → Gave g a l m c old mid first [] → Gave g a m at c mid new second called → Gave g a l at c old new (first ++ second) called
 gave_more g a l m at c old mid new first second none p q = record {
   more = p.more ++ q.more;
-  passes = passes_join g a.took l m at p.more q.more none p.holds.no_cut p.uncut q.still p.passes q.passes;
+  passes = passes_join g (outside a) l m at p.more q.more none p.holds.no_cut p.uncut q.still p.passes q.passes;
   holds = q.holds;
   client_queue = q.client_queue ∙ ap (λ x. x ++ client_output q.more) p.client_queue ∙ append_assoc old.ends.client.queued (client_output p.more) (client_output q.more)
       ∙ ap (λ x. old.ends.client.queued ++ x) (sym (flat_map-append to_client p.more q.more));
@@ -102,7 +102,7 @@ pub gave_one : (g : Setup) (a : Around) (l at : TraceState) {called : List (List
     → new.ends.client.queued ≡ old.ends.client.queued → queue_at_server new.ends ≡ queue_behind i (queue_at_server old.ends) → new.ends.edges ≡ edges_noted (note_of c i) old.ends.edges → (l.finished ≡ true → at.finished ≡ true) → Gave g a l at c old new (note_of c i) called
 gave_one g a l at c old new i none plain step may holds client server edges stays = record {
   more = i ∷ [];
-  passes = passes_one g a.took l at i none plain.takes (unfolds_one g l at i step) (may, tt);
+  passes = passes_one g (outside a) l at i none plain.takes (unfolds_one g l at i step) (may, tt);
   holds = holds;
   client_queue = client ∙ sym (ap (λ x. old.ends.client.queued ++ x) (ap (λ x. x ++ []) plain.client) ∙ append-nil old.ends.client.queued);
   servers = server;
@@ -132,4 +132,5 @@ ends_kept a l at e f h client server connects sent same =
       took_all = λ away. ap (λ s. to_take s a.took Server) sent ∙ h.took_all away;
       nothing_came = h.nothing_came;
       connecting = h.connecting;
+      idle = h.idle;
     })

@@ -15,6 +15,7 @@ use Rattle.conn_trace.proofs.Given.{sent_counted}
 use Rattle.conn_trace.proofs.Querying.{met_joins}
 use Rattle.conn_trace.proofs.Streams.{nothing_stream, nothing_server, nothing_on_last}
 use Rattle.conn_trace.proofs.Unfolding.{unfolds_on}
+use Rattle.conn.specs.Holds.{Outside}
 use Rattle.conn.specs.RunsItems.{CutAtRest, Passes}
 
 -- the same state with these parts
@@ -94,8 +95,11 @@ none_needed g took l at items more none k u =
     subst P (sym is) u
 
 -- Behind items that took a cut nothing is taken any more.
-module _ (g : Setup) (took : TakenCounts) (l m n : TraceState) (first second : List Item) (none : l.answers.cut ≡ None) (still_none : m.answers.cut ≡ None)
-    (before : m.finished ≡ false → TakesNoCut first) (behind : m.finished ≡ true → TakesNone second) (p : Passes g took l first m) (q : Passes g took m second n) where
+module _ (g : Setup) (o : Outside) (l m n : TraceState) (first second : List Item) (none : l.answers.cut ≡ None) (still_none : m.answers.cut ≡ None)
+    (before : m.finished ≡ false → TakesNoCut first) (behind : m.finished ≡ true → TakesNone second) (p : Passes g o l first m) (q : Passes g o m second n) where
+  abbrev took : TakenCounts
+  took = o.took
+
   -- with no cut in the first ones the choices join
   choices_pass : (items : List Item) (at : TraceState) (cut : Option Cut) → TakesNoCut first → CutMeets cut l.sent first → Unfolds g (longer (choosing (choices_in items) cut) m) items at
       → Unfolds g (longer (choosing (choices_in (first ++ items)) cut) l) (first ++ items) at
@@ -118,7 +122,7 @@ module _ (g : Setup) (took : TakenCounts) (l m n : TraceState) (first second : L
       let cut : cut_in took (first ++ second) ≡ cut_in took second = cut_joins took first second ∙ ap (λ x. first_cut x (cut_in took second)) (uncut took) in
       subst P (sym cut) (choices_pass second n (cut_in took second) uncut (cut_meets took l.sent first second p.met) q.passed)
 
-  cut_on : (b : Bool) → m.finished ≡ b → (reason : CutReason) → cut_in took (first ++ second) ≡ Some (record { reason = reason; took = took }) → CutAtRest g took l (first ++ second) reason
+  cut_on : (b : Bool) → m.finished ≡ b → (reason : CutReason) → cut_in took (first ++ second) ≡ Some (record { reason = reason; took = took }) → CutAtRest g o l (first ++ second) reason
   cut_on true e reason is =
       let k = p.cut reason (sym (cut_joins took first second ∙ ap (first_cut (cut_in took first)) ((behind e).1 took) ∙ no_more (cut_in took first)) ∙ is) in
       record {
@@ -143,7 +147,7 @@ module _ (g : Setup) (took : TakenCounts) (l m n : TraceState) (first second : L
         licensed = k.licensed;
       }
 
-  pub passes_join : Passes g took l (first ++ second) n
+  pub passes_join : Passes g o l (first ++ second) n
   passes_join =
       let M : Counts → Type 0 = λ s. Met s took second in
       record {
@@ -153,8 +157,8 @@ module _ (g : Setup) (took : TakenCounts) (l m n : TraceState) (first second : L
       }
 
 -- one item that takes no choice and no cut
-pub passes_one : (g : Setup) (took : TakenCounts) (l at : TraceState) (i : Item) → l.answers.cut ≡ None → TakesNone (i ∷ []) → Unfolds g l (i ∷ []) at → Met l.sent took (i ∷ []) → Passes g took l (i ∷ []) at
-passes_one g took l at i none k u met = record { passed = none_needed g took l at (i ∷ []) (i ∷ []) none k u; met = met; cut = λ reason is. absurd (let e = sym (k.1 took) ∙ is in cc) }
+pub passes_one : (g : Setup) (o : Outside) (l at : TraceState) (i : Item) → l.answers.cut ≡ None → TakesNone (i ∷ []) → Unfolds g l (i ∷ []) at → Met l.sent o.took (i ∷ []) → Passes g o l (i ∷ []) at
+passes_one g o l at i none k u met = record { passed = none_needed g o.took l at (i ∷ []) (i ∷ []) none k u; met = met; cut = λ reason is. absurd (let e = sym (k.1 o.took) ∙ is in cc) }
 
-pub passes_none : (g : Setup) (took : TakenCounts) (l : TraceState) → l.answers.cut ≡ None → Passes g took l [] l
-passes_none g took l none = record { passed = longer_nothing l none; met = tt; cut = λ reason is. absurd (cc) }
+pub passes_none : (g : Setup) (o : Outside) (l : TraceState) → l.answers.cut ≡ None → Passes g o l [] l
+passes_none g o l none = record { passed = longer_nothing l none; met = tt; cut = λ reason is. absurd (cc) }

@@ -93,6 +93,7 @@ asked_holds a l to e h free none = record {
   took_all = λ away. server_waits a l e h ∙ none_of (queue_of e.server) none;
   nothing_came = λ away. refl;
   connecting = λ asked. refl;
+  idle = h.idle;
 }
 
 -- it took the connection
@@ -110,6 +111,7 @@ made_holds a l at e h is client server connects sent = record {
   took_all = λ away. absurd (true≢false away);
   nothing_came = λ away. absurd (true≢false away);
   connecting = λ asked. (let k = sym is ∙ h.connecting asked in cc);
+  idle = h.idle;
 }
 
 -- it didn't
@@ -127,6 +129,7 @@ refused_holds a l at e h is client server connects sent = record {
   took_all = λ away. ap (λ s. to_take s a.took Server) sent ∙ h.took_all (ap is_taken is);
   nothing_came = λ away. h.nothing_came (ap has_stream is);
   connecting = λ asked. (let k = sym is ∙ h.connecting asked in cc);
+  idle = h.idle;
 }
 
 -- the notes where another is asked for

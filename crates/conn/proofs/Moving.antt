@@ -13,7 +13,7 @@ use Rattle.conn_trace.specs.Trace.{counted, next_item}
 use Rattle.conn_trace.proofs.Unfolding.{unfolds_one}
 use Rattle.conn.specs.Ends.{arrived, connects_by, end_of, has_stream, is_taken, is_up, sent_here, server_by}
 use Rattle.conn.specs.Forwarding.{ends_room}
-use Rattle.conn.specs.Holds.{Around, Between, Holds, HoldsEnds, Stands}
+use Rattle.conn.specs.Holds.{Around, Between, Holds, HoldsEnds, Stands, outside}
 use Rattle.conn.specs.Hosts.{seen_host}
 use Rattle.conn.specs.Messages.{Becomes}
 use Rattle.conn.specs.Relaying.{moved_as, queue_end, read_end, read_ends}
@@ -56,6 +56,7 @@ moved_ends a l at Client n bytes e h up client server connects sent = record {
   took_all = λ away. absurd (true≢false (sym (ap is_taken up) ∙ away));
   nothing_came = λ away. absurd (true≢false (sym (ap has_stream up) ∙ away));
   connecting = h.connecting;
+  idle = h.idle;
 }
 moved_ends a l at Server n bytes e h up client server connects sent = record {
   client = client ∙ h.client;
@@ -70,6 +71,7 @@ moved_ends a l at Server n bytes e h up client server connects sent = record {
   took_all = λ away. absurd (true≢false (sym (ap is_taken up) ∙ away));
   nothing_came = λ away. absurd (true≢false (sym (ap has_stream up) ∙ away));
   connecting = h.connecting;
+  idle = h.idle;
 }
 
 -- the first bytes of a side are read
@@ -88,6 +90,7 @@ side_read a l at Server n e h up client server connects sent = record {
   took_all = λ away. absurd (true≢false (sym (ap is_taken up) ∙ away));
   nothing_came = λ away. absurd (true≢false (sym (ap has_stream up) ∙ away));
   connecting = h.connecting;
+  idle = h.idle;
 }
 
 -- there is room where the trace has some
@@ -100,7 +103,7 @@ gave_moved g a l at c old new Client n bytes h up step room holds ends stays =
     let i = moved_item l Client n bytes in
     record {
       more = i ∷ [];
-      passes = passes_one g a.took l at i h.no_cut (refl, λ t. refl) (unfolds_one g l at i step) (room_is a l old.ends h.ends Client n bytes ∙ room, tt);
+      passes = passes_one g (outside a) l at i h.no_cut (refl, λ t. refl) (unfolds_one g l at i step) (room_is a l old.ends h.ends Client n bytes ∙ room, tt);
       holds = holds;
       client_queue = ap (λ e. e.client.queued) ends ∙ sym (append-nil old.ends.client.queued);
       servers = ap queue_at_server ends;
@@ -116,7 +119,7 @@ gave_moved g a l at c old new Server n bytes h up step room holds ends stays =
     let i = moved_item l Server n bytes in
     record {
       more = i ∷ [];
-      passes = passes_one g a.took l at i h.no_cut (refl, λ t. refl) (unfolds_one g l at i step) (room_is a l old.ends h.ends Server n bytes ∙ room, tt);
+      passes = passes_one g (outside a) l at i h.no_cut (refl, λ t. refl) (unfolds_one g l at i step) (room_is a l old.ends h.ends Server n bytes ∙ room, tt);
       holds = holds;
       client_queue = ap (λ e. e.client.queued) ends ∙ ap (λ x. old.ends.client.queued ++ x) (sym (append-nil bytes));
       servers = ap queue_at_server ends ∙ sym (quiet_queue (queue_at_server old.ends));

@@ -74,6 +74,7 @@ client_moved a l n e h up = record {
   took_all = λ away. absurd (true≢false (sym (ap is_taken up) ∙ away));
   nothing_came = λ away. absurd (true≢false (sym (ap has_stream up) ∙ away));
   connecting = h.connecting;
+  idle = h.idle;
 }
 
 server_moved : (a : Around) (l : TraceState) (n : ℕ) (e : Ends) → HoldsEnds a l e → e.link ≡ link.Up → HoldsEnds a (passed_server n (arrived e.server) l) (moved Server n e)
@@ -90,6 +91,7 @@ server_moved a l n e h up = record {
   took_all = λ away. absurd (true≢false (sym (ap is_taken up) ∙ away));
   nothing_came = λ away. absurd (true≢false (sym (ap has_stream up) ∙ away));
   connecting = h.connecting;
+  idle = h.idle;
 }
 
 -- the notes of a relay

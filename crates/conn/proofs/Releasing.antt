@@ -13,7 +13,7 @@ use Rattle.core_events.specs.declared.note.Note.{Note}
 use Rattle.conn_trace.proofs.Unfolding.{unfolds_one}
 use Rattle.conn.specs.Acts.{PassesReleased, Rests, cut_of}
 use Rattle.conn.specs.Ends.{connects_by, has_stream, is_up, link_by, server_by, is_taken}
-use Rattle.conn.specs.Holds.{Around, Between, Holds, HoldsEnds, Stands}
+use Rattle.conn.specs.Holds.{Around, Between, Holds, HoldsEnds, Stands, outside}
 use Rattle.conn.specs.Hosts.{released_host, seen_host}
 use Rattle.conn.specs.Queues.{queue_in}
 use Rattle.conn.specs.Relaying.{Releases, queue_end}
@@ -64,6 +64,7 @@ released_ends a l hs bytes e h up = record {
   took_all = λ away. absurd (true≢false (sym (ap is_taken up) ∙ away));
   nothing_came = λ away. absurd (true≢false (sym (ap has_stream up) ∙ away));
   connecting = h.connecting;
+  idle = h.idle;
 }
 
 module _ (s : code_setup.Setup) (g : Setup) (serves : Serves s g) (a : Around) (l : TraceState) (c : ℕ) (old new : Conn) (h : Holds g a l old) (is : old.stage ≡ stage.Releasing) (st : Stands g stage.Releasing l old) where
@@ -106,7 +107,7 @@ module _ (s : code_setup.Setup) (g : Setup) (serves : Serves s g) (a : Around) (
         at = at;
         gave = record {
           more = i ∷ [];
-          passes = passes_one g a.took l at i h.no_cut (refl, λ t. refl) (unfolds_one g l at i step) (ap (λ m. nat_lt m room_limit) (server_waits a l old.ends h.ends) ∙ room, tt);
+          passes = passes_one g (outside a) l at i h.no_cut (refl, λ t. refl) (unfolds_one g l at i step) (ap (λ m. nat_lt m room_limit) (server_waits a l old.ends h.ends) ∙ room, tt);
           holds = holds k;
           client_queue = ap (λ e. e.client.queued) k.ends ∙ sym (append-nil old.ends.client.queued);
           servers = ap queue_at_server k.ends;

@@ -19,7 +19,7 @@ use Rattle.conn_trace.specs.Trace.{counted, next_item, phase_next}
 use Rattle.conn_trace.proofs.Longer.{plain_next}
 use Rattle.conn_trace.proofs.Unfolding.{unfolds_one}
 use Rattle.conn.specs.Ends.{behind_of, connects_by, has_stream, is_leaving, is_up, number_by, sent_here, server_by, servers_by}
-use Rattle.conn.specs.Holds.{Around, Between, Holds, HoldsEnds, Stands}
+use Rattle.conn.specs.Holds.{Around, Between, Holds, HoldsEnds, Stands, outside}
 use Rattle.conn.specs.Hosts.{seen_host}
 use Rattle.conn.specs.Messages.{GivesUp, Retires, Reuses, is_whole, retired_ends, reuse_stage}
 use Rattle.conn.specs.Queues.{queue_in}
@@ -66,6 +66,7 @@ leaving_ends a l at w e h up client server connects sent = record {
   took_all = λ away. absurd (true≢false away);
   nothing_came = λ away. absurd (true≢false away);
   connecting = λ asked. (let k = sym up ∙ h.connecting asked in cc);
+  idle = h.idle;
 }
 
 -- which link that was
@@ -97,6 +98,7 @@ retired_hold a l at c taken w e h is client server connects sent = record {
   took_all = λ away. absurd (true≢false away);
   nothing_came = λ away. absurd (true≢false away);
   connecting = λ asked. (let k = sym is ∙ h.connecting (closed_asks c taken e.edges asked) in cc);
+  idle = h.idle;
 }
 
 module _ (s : code_setup.Setup) (g : Setup) (serves : Serves s g) (a : Around) (l : TraceState) (c : ℕ) (old new : Conn) (h : Holds g a l old) where
@@ -185,7 +187,7 @@ module _ (s : code_setup.Setup) (g : Setup) (serves : Serves s g) (a : Around) (
         at = at;
         gave = record {
           more = RetiresItem ∷ [];
-          passes = passes_one g a.took l at RetiresItem h.no_cut (refl, λ t. refl) (unfolds_one g l at RetiresItem step) (refl, tt);
+          passes = passes_one g (outside a) l at RetiresItem h.no_cut (refl, λ t. refl) (unfolds_one g l at RetiresItem step) (refl, tt);
           holds = record {
             stage = subst (λ x. Stands g x at new) (sym k'.there) (retired_stands g at new between w old.host refl);
             finished = going ∙ sym (ap has_finished k'.there ∙ calm.finished);

@@ -37,7 +37,7 @@ use Rattle.conn.proofs.HttpNexts.{answer_goes, dropping_goes, gathering_goes, he
 use Rattle.conn.specs.Ends.{arrived, end_of, is_done, is_up, lost_at, queued_in, server_by, has_stream, is_given_up, is_taken, sent_here}
 use Rattle.conn.specs.Events.{event_of, is_data}
 use Rattle.conn.specs.Holds.{Around, Between, GatedBefore, Holds, RunsFirst, Stands, HoldsEnds}
-use Rattle.conn.specs.Queues.{dropped_at, dropped_by, queue_in}
+use Rattle.conn.specs.Queues.{dropped_at, dropped_by, drops_in, lost_in, queue_in}
 use Rattle.core_events.specs.declared.note.Note.TheVariants.{HalfClose}
 use Rattle.conn.specs.Settling as settle
 use Rattle.conn.specs.Settling.{DropsReset, RestsWith, Settles, SettlesNotes, half_close, half_due, half_notes, is_over, is_spent, lost_by, lost_of, note_if, noted_in, over_in, rest_notes, settle_notes, settling, server_lost, gave_up, gave_up_at}
@@ -174,6 +174,10 @@ stage_last g (stage.Dropped n) l c k = absurd k
 
 pub over_at : (g : Setup) (a : Around) (l : TraceState) (c : Conn) → Holds g a l c → is_over (next_item g l) ≡ is_draining c.stage
 over_at g a l c h = ap is_over (plain_next g l h.no_cut) ∙ over_counted l.sent (phase_next g l.phase l) ∙ phase_goes g l.phase l ∙ stage_last g c.stage l c h.stage
+
+-- what is left is dropped where its fields say so
+pub dropped_is : (g : Setup) (a : Around) (l : TraceState) (c : Conn) → Holds g a l c → (is_over (next_item g l) && a.idle) ≡ drops_in c
+dropped_is g a l c h = ap (λ b. b && a.idle) (over_at g a l c h) ∙ ap (λ b. is_draining c.stage && b) h.ends.idle
 
 -- it is over exactly where its fields say so
 pub settles : (c : Conn) (over : Bool) → over ≡ over_in c → Settles c over
@@ -465,9 +469,10 @@ rest_noted number old first second new is_first is_second is_new =
     ∙ by_halves number old (half_due Client old) (half_due Server old)
 
 -- what was dropped, where it stands for a state
-lost_client : (b : Bool) (q : List ℕ) (counted sent : ℕ) → length q + counted ≡ sent → (if b then length q else 0) ≡ lost_by (taken_by b counted) (sent - counted)
-lost_client true q counted sent is = omega (arith, is)
-lost_client false q counted sent is = refl
+lost_client : (all b : Bool) (q : List ℕ) (counted sent : ℕ) → length q + counted ≡ sent → (if all then length q else (if b then length q else 0)) ≡ lost_by all (taken_by b counted) (sent - counted)
+lost_client true b q counted sent is = omega (arith, is)
+lost_client false true q counted sent is = omega (arith, is)
+lost_client false false q counted sent is = refl
 
 taken_streams : (k : CodeLink) → is_taken k ≡ true → has_stream k ≡ true
 taken_streams link.Up e = refl
@@ -479,43 +484,56 @@ taken_streams link.Refused e = absurd (true≢false (sym e))
 taken_streams link.Made e = absurd (true≢false (sym e))
 
 -- a fresh end lost nothing, nor did one to which nothing was sent
-none_lost : (b : Bool) (q : List ℕ) → length q ≡ 0 → (if b then length q else 0) ≡ 0
-none_lost true q is = is
-none_lost false q is = refl
+none_lost : (all b : Bool) (q : List ℕ) → length q ≡ 0 → (if all then length q else (if b then length q else 0)) ≡ 0
+none_lost true b q is = is
+none_lost false true q is = is
+none_lost false false q is = refl
 
-module _ (a : Around) (l : TraceState) (e : BothEnds) (h : HoldsEnds a l e) where
-  server_lost_is : lost_at e.server ≡ server_lost (link_of l.server) a l.sent
-  server_lost_is = by_link e.link refl ∙ ap (λ v. server_lost (link_of v) a l.sent) (sym h.server)
+module _ (all : Bool) (a : Around) (l : TraceState) (e : BothEnds) (h : HoldsEnds a l e) where
+  abbrev lost_there : ℕ
+  lost_there = if all then length e.server.queued else lost_at e.server
+
+  server_lost_is : lost_there ≡ server_lost all (link_of l.server) a l.sent
+  server_lost_is = by_link e.link refl ∙ ap (λ v. server_lost all (link_of v) a l.sent) (sym h.server)
     where
-      taken : (k : CodeLink) → e.link ≡ k → is_taken k ≡ true → sent_here k l.sent.server ≡ l.sent.server → lost_at e.server ≡ lost_by (taken_of a.took.servers l.sent.number) (l.sent.server - a.counted_server)
+      taken : (k : CodeLink) → e.link ≡ k → is_taken k ≡ true → sent_here k l.sent.server ≡ l.sent.server → lost_there ≡ lost_by all (taken_of a.took.servers l.sent.number) (l.sent.server - a.counted_server)
       taken k is there here =
-          lost_client e.server.reset e.server.queued a.counted_server l.sent.server (h.server_untaken (ap has_stream is ∙ taken_streams k there) ∙ ap (λ x. sent_here x l.sent.server) is ∙ here)
-          ∙ ap (λ o. lost_by o (l.sent.server - a.counted_server)) (sym (up_took a l e h (ap is_taken is ∙ there)))
+          lost_client all e.server.reset e.server.queued a.counted_server l.sent.server (h.server_untaken (ap has_stream is ∙ taken_streams k there) ∙ ap (λ x. sent_here x l.sent.server) is ∙ here)
+          ∙ ap (λ o. lost_by all o (l.sent.server - a.counted_server)) (sym (up_took a l e h (ap is_taken is ∙ there)))
 
-      none : (k : CodeLink) → e.link ≡ k → has_stream k ≡ false → lost_at e.server ≡ 0
-      none k is away = none_lost e.server.reset e.server.queued (ap (λ x. length x.queued) (h.nothing_came (ap has_stream is ∙ away)))
+      none : (k : CodeLink) → e.link ≡ k → has_stream k ≡ false → lost_there ≡ 0
+      none k is away = none_lost all e.server.reset e.server.queued (ap (λ x. length x.queued) (h.nothing_came (ap has_stream is ∙ away)))
 
-      by_link : (k : CodeLink) → e.link ≡ k → lost_at e.server ≡ server_lost (link_of (server_by k e.server)) a l.sent
+      by_link : (k : CodeLink) → e.link ≡ k → lost_there ≡ server_lost all (link_of (server_by k e.server)) a l.sent
       by_link link.Absent is = none link.Absent is refl
       by_link link.Asked is = none link.Asked is refl
       by_link link.Refused is = none link.Refused is refl
-      by_link link.Made is = none_lost e.server.reset e.server.queued (let k : length e.server.queued + a.counted_server ≡ 0 = h.server_untaken (ap has_stream is) ∙ ap (λ x. sent_here x l.sent.server) is in omega (arith, k))
+      by_link link.Made is = none_lost all e.server.reset e.server.queued (let k : length e.server.queued + a.counted_server ≡ 0 = h.server_untaken (ap has_stream is) ∙ ap (λ x. sent_here x l.sent.server) is in omega (arith, k))
       by_link link.Up is = taken link.Up is refl refl
       by_link link.GivenUp is = taken link.GivenUp is refl refl
       by_link (link.Leaving w) is = taken (link.Leaving w) is refl refl
 
 pub drops_reset : (c : Conn) → DropsReset c (dropped_by c)
-drops_reset c g a l h = by_stage c.stage h.stage
+drops_reset c g a l h = by_stage c.stage h.stage ∙ ap (λ b. lost_of b a l + e.lost) (sym (dropped_is g a l c h))
   where
     e : BothEnds
     e = c.ends
 
-    lost_is : lost_at e.client + (lost_at e.server + e.lost) ≡ lost_of a l + e.lost
-    lost_is =
-        (let client = lost_client e.client.reset e.client.queued a.counted l.sent.client h.ends.client_untaken ∙ ap (λ o. lost_by o (l.sent.client - a.counted)) (sym h.ends.client_took) in
-        let server = server_lost_is a l e h.ends in omega (arith, client, server))
+    lost : Bool → ℕ
+    lost all = if all then queued_in e else lost_in e
 
-    by_stage : (st : Stage) → Stands g st l c → dropped_at st (lost_at e.client + (lost_at e.server + e.lost)) ≡ lost_of a l + e.lost
+    by_all : (all : Bool) → lost all ≡ lost_of all a l + e.lost
+    by_all true =
+        (let client = lost_client true e.client.reset e.client.queued a.counted l.sent.client h.ends.client_untaken ∙ ap (λ o. lost_by true o (l.sent.client - a.counted)) (sym h.ends.client_took) in
+        let server = server_lost_is true a l e h.ends in omega (arith, client, server))
+    by_all false =
+        (let client = lost_client false e.client.reset e.client.queued a.counted l.sent.client h.ends.client_untaken ∙ ap (λ o. lost_by false o (l.sent.client - a.counted)) (sym h.ends.client_took) in
+        let server = server_lost_is false a l e h.ends in omega (arith, client, server))
+
+    lost_is : lost (drops_in c) ≡ lost_of (drops_in c) a l + e.lost
+    lost_is = by_all (drops_in c)
+
+    by_stage : (st : Stage) → Stands g st l c → dropped_at st (lost (drops_in c)) ≡ lost_of (drops_in c) a l + e.lost
     by_stage (stage.Dropped n) k = absurd k
     by_stage stage.OutOfMemory k = absurd k
     by_stage (stage.Gated at) k = lost_is

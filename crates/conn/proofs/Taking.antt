@@ -83,6 +83,7 @@ takes_ends a l Client n e within h = record {
   took_all = h.took_all;
   nothing_came = h.nothing_came;
   connecting = h.connecting;
+  idle = h.idle;
 }
 takes_ends a l Server n e within h = record {
   client = h.client;
@@ -97,6 +98,7 @@ takes_ends a l Server n e within h = record {
   took_all = λ away. more_untaken n a.took.servers l.sent.number l.sent.server (h.took_all away);
   nothing_came = λ up. took_fresh n e.server within (h.nothing_came up);
   connecting = h.connecting;
+  idle = h.idle;
 }
 
 took_link : (side : Side) (n : ℕ) (e : Ends) → (took_ends side n e).link ≡ e.link

@@ -22,7 +22,7 @@ use Rattle.conn_trace.specs.Relay.{meets}
 use Rattle.conn_trace.specs.SentBodies.{is_answered}
 use Rattle.core_events.specs.declared.edges.EdgeState.TheVariants as state
 use Rattle.core_events.specs.declared.note.CutReason.{CutReason}
-use Rattle.core_events.specs.declared.note.CutReason.TheVariants.{ClientReset, ServerReset}
+use Rattle.core_events.specs.declared.note.CutReason.TheVariants.{ClientReset, Idle, ServerReset}
 use Rattle.core_events.specs.declared.note.Note.{Note}
 use Rattle.core_events.specs.declared.note.Note.TheVariants as note
 use Rattle.conn.specs.declared.connection.Conn.{Conn}
@@ -61,17 +61,20 @@ abbrev pub server_cuts : (waits : Bool) → Conn → Bool
 server_cuts waits c =
     is_up c.ends.link && (c.ends.server.reset && (waits || not (is_some c.host.http)))
 
--- the reset that cuts it
+-- what cuts it: a reset, or that its idle limit is reached
+abbrev pub idle_cut : Conn → Option CutReason
+idle_cut c = if c.ends.idle then Some Idle else None
+
 abbrev pub cut_by : (waits : Bool) → Conn → Option CutReason
 cut_by waits c =
     if has_finished c.stage then None
     else (if c.ends.client.reset then Some ClientReset
-    else (if server_cuts waits c then Some ServerReset else None))
+    else (if server_cuts waits c then Some ServerReset else idle_cut c))
 
 abbrev pub cut_of : Conn → Option CutReason
 cut_of c = cut_by false c
 
--- where nothing may be given it is cut by a reset that was told, or rests
+-- where nothing may be given it is cut by a reset that was told or for its idle limit, or rests
 abbrev pub RestsBy : Option CutReason → Setup → ℕ → Conn → Conn → List Note → List Note → Act
     → Type 0
 RestsBy None s c old new before after a = (a ≡ act.Rests) × (new ≡ old) × (after ≡ before)

@@ -132,6 +132,15 @@ Resets side old new =
     (g : model.Setup) (a : Around) (l : TraceState) → Holds g a l old
     → Holds g (reset_in side a) l new
 
+-- its idle limit is reached, or that is taken back
+abbrev pub idle_in : Bool → Around → Around
+idle_in reached a = record a { idle = reached }
+
+abbrev pub Limits : Bool → Conn → Conn → Type 0
+Limits reached old new =
+    (g : model.Setup) (a : Around) (l : TraceState) → Holds g a l old
+    → Holds g (idle_in reached a) l new
+
 -- whether the server took the connection; once it has finished no answer comes
 abbrev pub connect_answer : Bool → Option Stream
 connect_answer true = Some no_stream

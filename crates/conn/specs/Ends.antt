@@ -29,7 +29,12 @@ fresh_ends = record {
   lost = 0;
   link = link.Absent;
   edges = accepted_edges;
+  idle = false;
 }
+
+-- whether its idle limit is reached
+abbrev pub idle_ends : Bool → Ends → Ends
+idle_ends reached e = record e { idle = reached }
 
 abbrev pub end_of : Side → Ends → ConnectionEnd
 end_of Client e = e.client

@@ -1,5 +1,5 @@
 -- What a connection of the code holds, by where its trace stands.
-use Rattle.std.specs.Prelude.{◌≡◌, ℕ, ◌+◌, List, [], ◌∷◌, ◌++◌, length, drop, true, false}
+use Rattle.std.specs.Prelude.{◌≡◌, ℕ, ◌+◌, List, [], ◌∷◌, ◌++◌, length, drop, Bool, true, false}
 use Rattle.std.specs.Prelude.{Option, None}
 use Rattle.px_bytes.specs.declared.addr.Addr.{Addr}
 use Rattle.px_bytes.specs.declared.addr.Side.{Side}
@@ -33,14 +33,24 @@ use Rattle.conn.specs.Hosts.{Told, seen_host}
 use Rattle.conn.specs.Stages.{InEvent as HostIn, fits, has_finished, reason_for, selects}
 
 -- What was told of it from outside: what was taken, where a side that was reset counts as having
--- taken all, and how many bytes its client and its server connection were told to have taken.
+-- taken all; whether its idle limit is reached, or it was cut for that; and how many bytes its client
+-- and its server connection were told to have taken.
 pub record Around : Type 0 where
   pub took : TakenCounts
+  pub idle : Bool
   pub counted : ℕ
   pub counted_server : ℕ
 
 abbrev pub fresh : Around
-fresh = record { took = none_taken; counted = 0; counted_server = 0 }
+fresh = record { took = none_taken; idle = false; counted = 0; counted_server = 0 }
+
+-- as much of it as a Run rests on
+pub record Outside : Type 0 where
+  pub took : TakenCounts
+  pub idle : Bool
+
+abbrev pub outside : Around → Outside
+outside a = record { took = a.took; idle = a.idle }
 
 -- between bodies nothing is kept back
 pub record Between (l : TraceState) (c : Conn) : Type 0 where
@@ -147,6 +157,7 @@ pub record HoldsEnds (a : Around) (l : TraceState) (e : Ends) : Type 0 where
   pub took_all : is_taken e.link ≡ false → to_take l.sent a.took Server ≡ 0
   pub nothing_came : has_stream e.link ≡ false → e.server ≡ fresh_end
   pub connecting : is_connecting e.edges.server.state ≡ true → e.link ≡ link.Asked
+  pub idle : a.idle ≡ e.idle
 
 -- What it holds where its trace stands at l. No choice and no cut was heard that wasn't taken.
 pub record Holds (g : Setup) (a : Around) (l : TraceState) (c : Conn) : Type 0 where

@@ -1,5 +1,6 @@
 -- What a Run makes of a connection, for each state that its trace may stand at.
 use Rattle.std.specs.Prelude.{◌≡◌, ◌⊎◌, ℕ, ◌+◌, ◌<◌, ◌≤◌, List, [], ◌∷◌, ◌++◌, length, Bool, true, false}
+use Rattle.std.specs.Prelude.{◌||◌, if◌then◌else◌}
 use Rattle.core_events.specs.declared.note.Note.{Note}
 use Rattle.core_events.specs.Edges.{edges_noted}
 use Rattle.core_events.specs.declared.note.Note.TheVariants.{Ended}
@@ -13,11 +14,11 @@ use Rattle.conn.specs.declared.stage.Stage.TheVariants as stage
 use Rattle.conn.specs.declared.turn.ConnTurn.{ConnTurn}
 use Rattle.conn.specs.declared.turn.ConnTurn.TheVariants as turn
 use Rattle.conn.specs.Ends.{queued_in}
-use Rattle.conn.specs.Holds.{Around, Holds}
+use Rattle.conn.specs.Holds.{Around, Holds, outside}
 use Rattle.conn.specs.Paid.{Paid}
 use Rattle.conn.specs.RunsItems.{Passes, RunsItems, asks, out_of_memory}
 use Rattle.conn.specs.Setups.{Serves}
-use Rattle.conn.specs.Queues.{dropped_by}
+use Rattle.conn.specs.Queues.{dropped_by, drops_in}
 use Rattle.conn.specs.Servers.{queue_along, queue_at_server, servers_output}
 use Rattle.conn.specs.Settling.{closing, noted_in, over_in, rest_notes}
 use Rattle.conn.specs.Stages.{is_asking}
@@ -29,7 +30,7 @@ pub record GoesOnWith (g : model.Setup) (a : Around) (l : TraceState) (c : ℕ) 
     (group : List Note) (t : ConnTurn) (steps : ℕ) : Type 0 where
   pub more : List Item
   pub at : TraceState
-  pub items : RunsItems g a.took old.ends.edges l c more at group t (queued_in new.ends)
+  pub items : RunsItems g (outside a) old.ends.edges l c more at group t (queued_in new.ends)
   pub holds : Holds g a at new
   pub client_queue : new.ends.client.queued ≡ old.ends.client.queued ++ client_output more
   pub servers : queue_at_server new.ends ≡ queue_along more (queue_at_server old.ends)
@@ -43,7 +44,7 @@ pub record StopsWithout (g : model.Setup) (a : Around) (l : TraceState) (c : ℕ
     (group : List Note) (t : ConnTurn) : Type 0 where
   pub more : List Item
   pub at : TraceState
-  pub passes : Passes g a.took l more at
+  pub passes : Passes g (outside a) l more at
   pub to_none : server_output 0 more ≡ []
   pub no_call : calls_in more ≡ []
   pub noted : group ≡ out_of_memory c old.ends.edges l.sent a.took more
@@ -57,12 +58,16 @@ Runs s c old new group t steps =
     → is_asking old.stage ≡ false
     → GoesOnWith g a l c old new group t steps ⊎ StopsWithout g a l c old group t
 
--- where no more may be given the notes come that are due
+-- where no more may be given the notes come that are due; where what is left is dropped, the last
+abbrev pub due_notes : ℕ → Conn → List Note
+due_notes c old =
+    if drops_in old then closing c old.ends.edges (queued_in old.ends) else rest_notes c old
+
 pub record RestsThere (c : ℕ) (old new : Conn) (before after : List Note) (over : Bool)
     : Type 0 where
-  pub over_is : over ≡ over_in old
-  pub noted : after ≡ before ++ rest_notes c old
-  pub told : new ≡ noted_in (rest_notes c old) old
+  pub over_is : over ≡ (drops_in old || over_in old)
+  pub noted : after ≡ before ++ due_notes c old
+  pub told : new ≡ noted_in (due_notes c old) old
 
 abbrev pub Rested : ℕ → Conn → Conn → List Note → List Note → ConnTurn → Type 0
 Rested c old new before after turn.More = ⊥

@@ -23,7 +23,8 @@ use Rattle.conn_trace.specs.Places.{is_up}
 use Rattle.conn_trace.specs.State.{TraceState, ForReply, Waits, link_of}
 use Rattle.conn_trace.specs.Trace.{next_item, Unfolds, GivesNoMore}
 use Rattle.conn.specs.Servers.{run_notes}
-use Rattle.conn.specs.Settling.{closing, is_drained, resting}
+use Rattle.conn.specs.Holds.{Outside}
+use Rattle.conn.specs.Settling.{closing, is_drained, is_over, resting}
 use Rattle.conn.specs.declared.turn.ConnTurn.{ConnTurn}
 use Rattle.conn.specs.declared.turn.ConnTurn.TheVariants as turn
 
@@ -37,31 +38,40 @@ is_resting turn.NotYet = true
 is_resting turn.Over = true
 is_resting other = false
 
--- What was told from outside licenses a cut: a side of it was reset. The reset of a server connection
--- that is given up cuts nothing.
-abbrev pub licenses : CutReason → TraceState → TakenCounts → Bool
-licenses ClientReset at took = is_reset at.sent took Client
-licenses ServerReset at took = is_up (link_of at.server) && is_reset at.sent took Server
-licenses Idle at took = false
+-- What was told from outside licenses a cut: a side of it was reset, or its idle limit is reached. The
+-- reset of a server connection that is given up cuts nothing.
+abbrev pub licenses : CutReason → TraceState → Outside → Bool
+licenses ClientReset at o = is_reset at.sent o.took Client
+licenses ServerReset at o = is_up (link_of at.server) && is_reset at.sent o.took Server
+licenses Idle at o = o.idle
 
 -- A cut for this reason is due where it rests: what was told licenses it, and the trace takes it. With
 -- HTTP the server's reset ends but a wait for its bytes.
-abbrev pub cut_due : Setup → CutReason → TakenCounts → TraceState → Bool
-cut_due g reason took at =
-    licenses reason at took && cut_is_taken g (record { reason = reason; took = took }) at
+abbrev pub cut_due : Setup → CutReason → Outside → TraceState → Bool
+cut_due g reason o at =
+    licenses reason at o && cut_is_taken g (record { reason = reason; took = o.took }) at
 
-abbrev pub is_cut : Setup → TakenCounts → TraceState → Bool
-is_cut g took at = cut_due g ClientReset took at || cut_due g ServerReset took at
+abbrev pub is_cut : Setup → Outside → TraceState → Bool
+is_cut g o at =
+    cut_due g ClientReset o at || (cut_due g ServerReset o at || cut_due g Idle o at)
 
--- where a Run stops: in the middle, at a call, where no more may be given and no cut is due, or at
--- the end
-abbrev pub StopsAt : Setup → TakenCounts → TraceState → ConnTurn → Type 0
-StopsAt g took at turn.More = Unit {0}
-StopsAt g took at (turn.Asks call) = next_item g at ≡ Waits (ForReply call)
-StopsAt g took at turn.NotYet =
-    GivesNoMore false at.sent took (next_item g at)
-    × ((is_drained g took at ≡ false) × (is_cut g took at ≡ false))
-StopsAt g took at turn.Over = is_drained g took at ≡ true
+-- Where its trace is over and its idle limit is reached, or it was cut for that, what is queued is
+-- dropped: it ends.
+abbrev pub is_dropped : Setup → Outside → TraceState → Bool
+is_dropped g o at = is_over (next_item g at) && o.idle
+
+abbrev pub is_ended : Setup → Outside → TraceState → Bool
+is_ended g o at = is_dropped g o at || is_drained g o.took at
+
+-- where a Run stops: in the middle, at a call, where no more may be given, no cut is due and its idle
+-- limit isn't reached, or at the end
+abbrev pub StopsAt : Setup → Outside → TraceState → ConnTurn → Type 0
+StopsAt g o at turn.More = Unit {0}
+StopsAt g o at (turn.Asks call) = next_item g at ≡ Waits (ForReply call)
+StopsAt g o at turn.NotYet =
+    GivesNoMore false at.sent o.took (next_item g at)
+    × ((is_drained g o.took at ≡ false) × ((is_cut g o at ≡ false) × (o.idle ≡ false)))
+StopsAt g o at turn.Over = is_ended g o at ≡ true
 
 -- one that stops in the middle gave an item, or stands inside a body
 abbrev pub GoesForward : ConnTurn → List Item → TraceState → Type 0
@@ -84,43 +94,48 @@ asked_at (turn.Asks call) = call ∷ []
 asked_at other = []
 
 -- A cut came behind these items, where no more might be given, and what was told licenses it.
-pub record CutAtRest (g : Setup) (took : TakenCounts) (l : TraceState) (more : List Item)
+pub record CutAtRest (g : Setup) (o : Outside) (l : TraceState) (more : List Item)
     (reason : CutReason) : Type 0 where
   pub first : List Item
   pub behind : List Item
   pub mid : TraceState
   pub split : more ≡ first ++ Finished (CutBy reason) ∷ behind
   pub passed : Unfolds g (longer (choosing (choices_in first) None) l) first mid
-  pub rests : GivesNoMore false mid.sent took (next_item g mid)
-  pub licensed : licenses reason mid took ≡ true
+  pub rests : GivesNoMore false mid.sent o.took (next_item g mid)
+  pub licensed : licenses reason mid o ≡ true
 
 -- From l these items came, on the choices that they took, and each was let through its gate; then
 -- it stands at `at`. A cut is among them only where it is due.
-pub record Passes (g : Setup) (took : TakenCounts) (l : TraceState) (more : List Item)
+pub record Passes (g : Setup) (o : Outside) (l : TraceState) (more : List Item)
     (at : TraceState) : Type 0 where
-  pub passed : Unfolds g (longer (taken_by_items took more) l) more at
-  pub met : Met l.sent took more
-  pub cut : (reason : CutReason) → cut_in took more ≡ Some (record { reason = reason; took = took })
-      → CutAtRest g took l more reason
+  pub passed : Unfolds g (longer (taken_by_items o.took more) l) more at
+  pub met : Met l.sent o.took more
+  pub cut : (reason : CutReason)
+      → cut_in o.took more ≡ Some (record { reason = reason; took = o.took })
+      → CutAtRest g o l more reason
 
 -- what is told behind the items, where it rests
-abbrev pub told_behind : ConnTurn → Setup → TakenCounts → TraceState → ℕ → Edges → (dropped : ℕ)
+abbrev pub told_at_rest : Setup → Outside → TraceState → ℕ → Edges → (dropped : ℕ) → List Note
+told_at_rest g o at c e dropped =
+    if is_dropped g o at then closing c e dropped else resting g o.took at c e dropped
+
+abbrev pub told_behind : ConnTurn → Setup → Outside → TraceState → ℕ → Edges → (dropped : ℕ)
     → List Note
-told_behind t g took at c e dropped =
-    if is_resting t then resting g took at c e dropped else []
+told_behind t g o at c e dropped =
+    if is_resting t then told_at_rest g o at c e dropped else []
 
 -- It gave these items, and stops there; its notes are those of the items, with the closings of server
 -- connections that were given up, and then what is due where it rests. Before it the outside had been told
 -- so much of its ends. The only call among them is the one at which it stops. Where it stops in the middle
 -- without an item it stands inside a body.
-pub record RunsItems (g : Setup) (took : TakenCounts) (e : Edges) (l : TraceState) (c : ℕ)
+pub record RunsItems (g : Setup) (o : Outside) (e : Edges) (l : TraceState) (c : ℕ)
     (more : List Item) (at : TraceState) (group : List Note) (t : ConnTurn) (dropped : ℕ)
     : Type 0 where
-  pub passes : Passes g took l more at
+  pub passes : Passes g o l more at
   pub noted : group
-      ≡ run_notes c l.sent took more
-      ++ told_behind t g took at c (edges_noted (run_notes c l.sent took more) e) dropped
-  pub stops : StopsAt g took at t
+      ≡ run_notes c l.sent o.took more
+      ++ told_behind t g o at c (edges_noted (run_notes c l.sent o.took more) e) dropped
+  pub stops : StopsAt g o at t
   pub forward : GoesForward t more at
   pub calls : calls_in more ≡ asked_at t
 

@@ -157,25 +157,26 @@ RestsWith number c =
     → rest_notes number c ≡ resting g a.took l number c.ends.edges (queued_in c.ends)
 
 -- while it stands for a state what was dropped is what resets left untaken, of its sides and of the
--- server connections before
-abbrev pub lost_by : Option ℕ → ℕ → ℕ
-lost_by None n = n
-lost_by (Some taken) n = 0
+-- server connections before; all that is untaken, where its trace is over and its idle limit is reached
+abbrev pub lost_by : (all : Bool) → Option ℕ → ℕ → ℕ
+lost_by true taken n = n
+lost_by false None n = n
+lost_by false (Some taken) n = 0
 
-abbrev pub server_lost : Link → Around → Counts → ℕ
-server_lost Up a sent =
-    lost_by (taken_of a.took.servers sent.number) (sent.server - a.counted_server)
-server_lost (Left b) a sent =
-    lost_by (taken_of a.took.servers sent.number) (sent.server - a.counted_server)
-server_lost GivenUp a sent =
-    lost_by (taken_of a.took.servers sent.number) (sent.server - a.counted_server)
-server_lost other a sent = 0
+abbrev pub server_lost : (all : Bool) → Link → Around → Counts → ℕ
+server_lost all Up a sent =
+    lost_by all (taken_of a.took.servers sent.number) (sent.server - a.counted_server)
+server_lost all (Left b) a sent =
+    lost_by all (taken_of a.took.servers sent.number) (sent.server - a.counted_server)
+server_lost all GivenUp a sent =
+    lost_by all (taken_of a.took.servers sent.number) (sent.server - a.counted_server)
+server_lost all other a sent = 0
 
-abbrev pub lost_of : Around → TraceState → ℕ
-lost_of a l = lost_by a.took.client (l.sent.client - a.counted)
-    + server_lost (link_of l.server) a l.sent
+abbrev pub lost_of : (all : Bool) → Around → TraceState → ℕ
+lost_of all a l = lost_by all a.took.client (l.sent.client - a.counted)
+    + server_lost all (link_of l.server) a l.sent
 
 abbrev pub DropsReset : Conn → ℕ → Type 0
 DropsReset c dropped =
     (g : model.Setup) (a : Around) (l : TraceState) → Holds g a l c
-    → dropped ≡ lost_of a l + c.ends.lost
+    → dropped ≡ lost_of (is_over (next_item g l) && a.idle) a l + c.ends.lost

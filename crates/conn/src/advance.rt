@@ -3,7 +3,7 @@
 ghost use Rattle.std.specs.Prelude.{◌≡◌, ◌+◌, ◌-◌, ◌<◌, ◌≤◌, length, IfOk, OnOk};
 ghost use Rattle.std.specs.Prelude.{OnErr, true, false};
 ghost use Rattle.conn.specs.Acted.{Acted, LogsFault};
-ghost use Rattle.conn.specs.Acts.{BehindFault, PassesGate, Rests, WaitsFor, cut_by, server_cuts};
+ghost use Rattle.conn.specs.Acts.{BehindFault, PassesGate, Rests, WaitsFor, cut_by, idle_cut, server_cuts};
 ghost use Rattle.conn.specs.Stages.{is_running};
 
 use crate::connection::Conn;
@@ -144,7 +144,7 @@ impl Conn {
         self.rest_or_cut(setup, number, notes)
     }
 
-    /// Nothing may be given: a reset that was told cuts the connection.
+    /// Nothing may be given: a reset that was told cuts the connection, or its idle limit.
     pub(crate) fn rest_or_cut(&mut self, setup: &Setup<'_>, number: u32, notes: &mut Notes) -> Act
         requires { 1 ≤ notes.old.spare }
         ensures rests { Rests setup.now number self.old self.new
@@ -182,7 +182,7 @@ impl Conn {
         }
     }
 
-    // The reset that cuts it, by whether it waits for bytes of its server.
+    // What cuts it, by whether it waits for bytes of its server: a reset, or its idle limit.
     fn cut(&self, waits: bool) -> Option<CutReason>
         ensures { result ≡ cut_by waits self.now }
     {
@@ -195,7 +195,17 @@ impl Conn {
         if self.is_cut_by_server(waits) {
             return Some(CutReason::ServerReset);
         }
-        None
+        self.idle_cut()
+    }
+
+    fn idle_cut(&self) -> Option<CutReason>
+        ensures { result ≡ idle_cut self.now }
+    {
+        if self.ends.idle {
+            Some(CutReason::Idle)
+        } else {
+            None
+        }
     }
 
     fn is_cut_by_server(&self, waits: bool) -> bool

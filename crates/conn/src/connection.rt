@@ -3,11 +3,11 @@
 ghost use Rattle.std.specs.Prelude.{◌≡◌, ◌≤◌, [], true, false, IfOk, OnOk, OnErr};
 ghost use Rattle.std.specs.Prelude.{length, take};
 ghost use Rattle.core_events.specs.Edges.{is_connecting};
-ghost use Rattle.conn.specs.Calls.{Begins, Connects, Hears, Replies, Resets, Takes, Wants};
+ghost use Rattle.conn.specs.Calls.{Begins, Connects, Hears, Limits, Replies, Resets, Takes, Wants};
 ghost use Rattle.conn.specs.Calls.{connected_ends, ended_ends, heard_ends, reset_ends, took_ends};
 ghost use Rattle.conn.specs.Calls.{counted_held, wanted_in};
 ghost use Rattle.conn_trace.specs.Selected.{addr_of};
-ghost use Rattle.conn.specs.Ends.{end_of, fresh_ends};
+ghost use Rattle.conn.specs.Ends.{end_of, fresh_ends, idle_ends};
 ghost use Rattle.conn.specs.Queues.{queue_in};
 ghost use Rattle.conn.specs.Stages.{has_finished, is_asking, selects};
 
@@ -68,6 +68,15 @@ impl Conn {
         ensures ends { self.new ≡ record self.old { ends = reset_ends side self.old.ends } }
     {
         self.ends.reset(side);
+    }
+
+    /// Its idle limit is reached: it is cut where it rests, and what is queued behind its closing
+    /// events is dropped. Or that is taken back.
+    pub fn limit(&mut self, reached: bool)
+        ensures limits { Limits reached self.old self.new }
+        ensures ends { self.new ≡ record self.old { ends = idle_ends reached self.old.ends } }
+    {
+        self.ends.limit(reached);
     }
 
     /// Where its ends stand for the outside.

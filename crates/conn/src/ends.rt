@@ -3,7 +3,8 @@
 ghost use Rattle.std.specs.Prelude.{◌≡◌, ◌+◌, ◌-◌, ◌≤◌, ◌<◌, ◌^◌, [], true, false, length, take, drop, IfOk, OnOk, OnErr};
 ghost use Rattle.conn.specs.Acts.{asked_ends};
 ghost use Rattle.conn.specs.Calls.{connected_ends, ended_ends, reset_ends, took_ends};
-ghost use Rattle.conn.specs.Ends.{end_of, fresh_end, fresh_ends, has_stream, heard_end, hears_at, is_done};
+ghost use Rattle.conn.specs.Ends.{end_of, fresh_end, fresh_ends, has_stream, heard_end, hears_at};
+ghost use Rattle.conn.specs.Ends.{idle_ends, is_done};
 ghost use Rattle.conn.specs.Ends.{is_given_up, is_sought, is_up, lost_at, queue_of, queued_in, room_left};
 ghost use Rattle.conn.specs.Forwarding.{ends_room, waiting};
 ghost use Rattle.conn.specs.Relaying.{passes_now, read_ends, sent_ends};
@@ -201,6 +202,8 @@ pub struct Ends {
     pub(crate) lost: u32,
     pub(crate) link: Link,
     pub(crate) edges: Edges,
+    /// Whether the idle limit is reached.
+    pub(crate) idle: bool,
 }
 
 impl Ends {
@@ -217,6 +220,7 @@ impl Ends {
                 client: Edge::new(EdgeState::Open),
                 server: Edge::new(EdgeState::Absent),
             },
+            idle: false,
         }
     }
 
@@ -313,6 +317,13 @@ impl Ends {
             Side::Client => self.client.took(n),
             Side::Server => self.server.took(n),
         }
+    }
+
+    /// The idle limit is reached, or that is taken back.
+    pub(crate) fn limit(&mut self, reached: bool)
+        ensures { self.new ≡ idle_ends reached self.old }
+    {
+        self.idle = reached;
     }
 
     /// A side was reset.

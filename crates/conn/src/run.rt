@@ -82,7 +82,7 @@ impl Conn {
         ensures rested { Rested number self.old self.new notes.old.items notes.new.items result }
         ensures dropped { TellsDropped result number self.new notes.new.items }
     {
-        if self.rest(number, notes) {
+        if self.rest_or_drop(number, notes) {
             ConnTurn::Over
         } else {
             ConnTurn::NotYet

@@ -1,8 +1,11 @@
 // What a connection owes the outside where it can't go on.
 
-ghost use Rattle.std.specs.Prelude.{◌≡◌, ◌+◌, ◌≤◌, ◌++◌};
+ghost use Rattle.std.specs.Prelude.{◌≡◌, ◌+◌, ◌≤◌, ◌++◌, ◌||◌};
 ghost use Rattle.conn.specs.Settling.{Settles, SettlesNotes, half_due, half_notes, noted_in, over_in};
-ghost use Rattle.conn.specs.Settling.{client_notes, close_notes, is_there, rest_notes};
+ghost use Rattle.conn.specs.Ends.{queued_in};
+ghost use Rattle.conn.specs.Queues.{drops_in};
+ghost use Rattle.conn.specs.Runs.{due_notes};
+ghost use Rattle.conn.specs.Settling.{client_notes, close_notes, closing, is_there, rest_notes};
 ghost use Rattle.conn.specs.Settling.{gave_up, is_spent, server_notes, settle_notes};
 ghost use Rattle.core_events.specs.Edges.{edges_noted};
 
@@ -60,8 +63,23 @@ impl Conn {
         }
     }
 
-    /// Gives the notes that are due at a rest, and says whether it is over.
-    pub(crate) fn rest(&mut self, number: u32, notes: &mut Notes) -> bool
+    /// Gives the notes that are due at a rest, where its idle limit is reached those with which what is
+    /// left is dropped, and says whether it is over.
+    pub(crate) fn rest_or_drop(&mut self, number: u32, notes: &mut Notes) -> bool
+        requires { 5 ≤ notes.old.spare }
+        ensures over { result ≡ (drops_in self.old || over_in self.old) }
+        ensures noted { notes.new.items ≡ notes.old.items ++ due_notes number self.old }
+        ensures ends { self.new ≡ noted_in (due_notes number self.old) self.old }
+    {
+        if self.drops() {
+            self.drop_rest(number, notes);
+            return true;
+        }
+        self.rest(number, notes)
+    }
+
+    // Gives the notes that are due at a rest, and says whether it is over.
+    fn rest(&mut self, number: u32, notes: &mut Notes) -> bool
         requires { 5 ≤ notes.old.spare }
         ensures over { result ≡ over_in self.old }
         ensures noted { notes.new.items ≡ notes.old.items ++ rest_notes number self.old }
@@ -70,6 +88,28 @@ impl Conn {
         self.half_close(number, Side::Client, notes);
         self.half_close(number, Side::Server, notes);
         self.settle_now(number, notes)
+    }
+
+    /// Whether what is left is dropped: its idle limit is reached, or it was cut for that.
+    pub(crate) fn drops(&self) -> bool
+        ensures { result ≡ drops_in self.now }
+    {
+        self.stage.is_draining() && self.ends.idle
+    }
+
+    // What is left is dropped: it gives the last notes.
+    fn drop_rest(&mut self, number: u32, notes: &mut Notes)
+        requires { 3 ≤ notes.old.spare }
+        ensures noted { notes.new.items
+            ≡ notes.old.items ++ closing number self.old.ends.edges (queued_in self.old.ends) }
+        ensures ends { self.new
+            ≡ noted_in (closing number self.old.ends.edges (queued_in self.old.ends)) self.old }
+    {
+        close(&mut self.ends.edges, number, true, true, notes);
+        notes.push_reserved(Note::Ended {
+            conn: number,
+            dropped: self.ends.queued(),
+        });
     }
 
     // Nothing more comes for a side that took all: what is sent to it ends.

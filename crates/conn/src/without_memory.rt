@@ -36,6 +36,7 @@ impl Conn {
     {
         match self.stage {
             Stage::Dropped(dropped) => dropped,
+            _ if self.drops() => self.ends.queued(),
             _ => self.ends.lost(),
         }
     }
