@@ -3,13 +3,12 @@
 ghost use Rattle.std.specs.Prelude.{◌≡◌, option_map};
 ghost use Rattle.conn.specs.Setups.{body_at, body_in, handler_of, places_at};
 ghost use Rattle.conn.specs.Setups.{places_in};
-ghost use Rattle.rule_loader.specs.Events.{event_place};
 
 use crate::events::At;
 use event_order::EventName;
 use irule_net::Groups;
 use px_bytes::{Seq, Text};
-use rule_loader::Rule;
+use rule_loader::{Rule, event_place};
 use tcl_trees::{Node, Procs};
 use tcl_vars::Vars;
 
@@ -76,27 +75,6 @@ fn places_in(lists: &[Places], event: EventName) -> &[Place]
     match lists.get(event_place(event)) {
         Some(places) => places.as_slice(),
         None => &[],
-    }
-}
-
-// The place of an event among them all.
-fn event_place(event: EventName) -> usize
-    ensures { result ≡ event_place event }
-{
-    match event {
-        EventName::RuleInit => 0,
-        EventName::ClientAccepted => 1,
-        EventName::ClientData => 2,
-        EventName::ClientClosed => 3,
-        EventName::ServerConnected => 4,
-        EventName::ServerData => 5,
-        EventName::ServerClosed => 6,
-        EventName::LbSelected => 7,
-        EventName::LbFailed => 8,
-        EventName::HttpRequest => 9,
-        EventName::HttpRequestData => 10,
-        EventName::HttpResponse => 11,
-        EventName::HttpResponseData => 12,
     }
 }
 

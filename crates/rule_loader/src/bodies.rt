@@ -35,8 +35,8 @@ impl Model for Bodies {
     ghost invariant = { λ b. length b.lists.items ≡ 13 };
 }
 
-// The place of the event among them all.
-fn event_place(event: EventName) -> usize
+/// The place of an event among them all, in the order of `EventName::ALL`.
+pub fn event_place(event: EventName) -> usize
     ensures value { result ≡ event_place event }
     ensures within { result < 13 }
 {

@@ -16,7 +16,7 @@ mod rule;
 mod told;
 mod words;
 
-pub use bodies::Bodies;
+pub use bodies::{Bodies, event_place};
 pub use handler::{EventHandler, Handlers};
 pub use laws::{handlers_run_in_order, least_is_told};
 pub use load_fault::{LoadFault, LoadKind, RuleFault};
