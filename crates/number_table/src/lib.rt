@@ -1,4 +1,4 @@
-//! Values under rising numbers, found without a scan, and the ring of those that are ready.
+//! Values under rising numbers, found without a scan, the ring of those that are ready, and a deadline for each.
 #![tactic(auto)]
 
 ghost use Rattle.std.specs.Prelude.{◌≡◌, ℕ, ◌+◌, ◌<◌, ◌↔◌, IsTrue, [], ◌∷◌, ◌++◌, true, Some, IfOk, IfSome, IfNone, length};
@@ -7,7 +7,7 @@ ghost use Rattle.std.specs.Borrow.{sem};
 ghost use Rattle.number_table.specs.Layout.{numbers_of};
 ghost use Rattle.number_table.specs.Table.{Rises, is_in, place_in, with_ready, without, Pops};
 
-use index_lists::Ring;
+use index_lists::{Ring, Wheel};
 use slab::Slab;
 use std::alloc::{AllocError, Global};
 use std::marker::Model;
@@ -21,6 +21,9 @@ pub struct Table<T> {
     // By rising number.
     entries: Vec<Entry>,
     ring: Ring,
+    // The deadlines of values, and their numbers, by their keys.
+    dues: Wheel,
+    owners: Vec<u32>,
 }
 
 #[derive(Drop, Clone, Copy)]
@@ -63,10 +66,16 @@ impl<T> Table<T> {
     {
         let mut ring = Ring::new(alloc);
         ring.reserve(room)?;
+        let values = Slab::with_capacity(alloc, room)?;
+        let keys = values.capacity();
+        let mut dues = Wheel::new(alloc);
+        dues.reserve(u32::try_from(keys).unwrap_or(u32::MAX))?;
         Ok(Table {
-            values: Slab::with_capacity(alloc, room)?,
+            values,
             entries: Vec::with_capacity(alloc, room)?,
             ring,
+            dues,
+            owners: vec![in alloc; 0; keys]?,
         })
     }
 
@@ -111,6 +120,7 @@ impl<T> Table<T> {
         ensures room { self.new.room ≡ self.old.room }
     {
         let key = self.values.insert_reserved(value);
+        self.owners[key] = number;
         self.entries.push_reserved(Entry {
             number,
             key,
@@ -132,7 +142,43 @@ impl<T> Table<T> {
     {
         let entry = self.entries.remove(at);
         unlink(&mut self.ring, entry);
+        self.dues.cancel(entry.key as u32);
         self.values.remove(entry.key)
+    }
+
+    /// The value at a place has this deadline from now on.
+    pub fn set_due(&mut self, at: usize, due: Option<u64>)
+        requires { at < length self.old.items }
+        ensures items { self.new.items ≡ self.old.items }
+        ensures numbers { self.new.numbers ≡ self.old.numbers }
+        ensures ring { self.new.ring ≡ self.old.ring }
+        ensures room { self.new.room ≡ self.old.room }
+    {
+        let key = self.entries[at].key as u32;
+        match due {
+            Some(due) => self.dues.put(key, due),
+            None => {
+                self.dues.cancel(key);
+            }
+        }
+    }
+
+    /// Takes one deadline out that has come, and tells the place of its value; which one, where there are
+    /// several, is free.
+    pub fn overdue(&mut self, moment: u64) -> Option<usize>
+        ensures items { self.new.items ≡ self.old.items }
+        ensures numbers { self.new.numbers ≡ self.old.numbers }
+        ensures ring { self.new.ring ≡ self.old.ring }
+        ensures room { self.new.room ≡ self.old.room }
+        ensures within { IfSome result (λ at. at < length self.old.items) }
+    {
+        let key = self.dues.advance(moment)?;
+        find(&self.entries, self.owners[key as usize])
+    }
+
+    /// The least deadline.
+    pub fn next_due(&self) -> Option<u64> {
+        self.dues.next_due()
     }
 
     /// Puts the number at a place at the back of the ring, unless it is there.

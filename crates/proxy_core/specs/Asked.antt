@@ -1,5 +1,5 @@
 -- What may be asked of a core, by the past and the scheduler's state.
-use Rattle.std.specs.Prelude.{ℕ, List, [], ◌∷◌, length, take, drop, Bool, true, false, Option, Some}
+use Rattle.std.specs.Prelude.{ℕ, ◌^◌, List, [], ◌∷◌, length, take, drop, Bool, true, false, Option, Some}
 use Rattle.std.specs.Prelude.{None, ◌&&◌, min, nat_le, nat_lt, slice_get, option_and_then}
 use Rattle.std.specs.Prelude.{if◌then◌else◌}
 use Rattle.px_bytes.specs.declared.addr.Side.{Side}
@@ -8,7 +8,7 @@ use Rattle.core_events.specs.declared.edges.Edges.{Edges}
 use Rattle.conn_trace.specs.Gates.{no_bytes, sent_from, taken_of}
 use Rattle.conn_trace.specs.Heard.{Heard, taken}
 use Rattle.conn_trace.specs.Item.{Item, client_output, server_output}
-use Rattle.record_model.specs.Clock.{never}
+use Rattle.record_model.specs.Clock.{Clock, clock, idles_at, never}
 use Rattle.record_model.specs.Past.{Past, heard, shared}
 use Rattle.proxy_core.specs.Ready.{is_in}
 use Rattle.proxy_core.specs.Refusal.{wants_at}
@@ -46,9 +46,17 @@ abbrev pub least : {A : Type 0} → (A → Option ℕ) → List A → Option ℕ
 least due [] = None
 least due (x ∷ xs) = lesser (due x) (least due xs)
 
--- the least moment at which a call of a live connection wakes
+-- when the idle limit of a connection is reached, where nothing comes before and that is above the
+-- present moment
+abbrev pub idle_due : Config → Clock → Option ℕ
+idle_due C k =
+    if nat_lt k.moment (idles_at C k) && nat_lt (idles_at C k) (2 ^ 64) then Some (idles_at C k)
+    else None
+
+-- the least moment at which a call of a live connection wakes, or it reaches its idle limit
 abbrev pub next_due_of : Config → Past → State → Option ℕ
-next_due_of C past s = least (λ c. due_of (s.asleep c)) (shared past).live
+next_due_of C past s =
+    least (λ c. lesser (due_of (s.asleep c)) (idle_due C (clock c past))) (shared past).live
 
 abbrev pub live_of : Past → ℕ
 live_of past = length (shared past).live

@@ -19,7 +19,8 @@ use Rattle.conn_trace.specs.Item.{reasons_in, server_output}
 use Rattle.conn_trace.specs.Laws.{cut_is_taken}
 use Rattle.conn_trace.specs.Tellings.{notes_about, failure_told}
 use Rattle.conn_trace.specs.Trace.{next_item, trace, GivesNoMore}
-use Rattle.record_model.specs.Clock.{EntriesAwake, SleepsTold, clock, is_due}
+use Rattle.record_model.specs.Clock.{Clock, EntriesAwake, SleepsTold, clock, is_due, is_idle}
+use Rattle.record_model.specs.Clock.{reached}
 use Rattle.record_model.specs.History.{IsHistory, called_in, entries_in, store_of}
 use Rattle.proxy_core.specs.Moves.{Leads}
 use Rattle.record_model.specs.Past.{Past, heard, shared}
@@ -70,9 +71,9 @@ GaveDeliverable C asleep h place =
     (next_item (setup_of C h) (stand_of C h place))
 
 -- no cut that is allowed goes on from there; once it has finished none does
-abbrev pub NoCutIsDue : Config → Heard → List Item → Type 0
-NoCutIsDue C h place =
-    (reason : CutReason) → allows h (stand_of C h place) reason ≡ true
+abbrev pub NoCutIsDue : Config → Heard → Clock → List Item → Type 0
+NoCutIsDue C h k place =
+    (reason : CutReason) → allows C h k (stand_of C h place) reason ≡ true
     → cut_is_taken (setup_of C h) (record { reason = reason; took = taken h })
     (stand_of C h place) ≡ false
 
@@ -81,16 +82,17 @@ pub record IsSettled (s : State) : Type 0 where
   pub none_ready : s.ring ≡ []
   pub none_asks : s.queue ≡ []
 
--- Where it is settled, each live connection found memory, gave all that was deliverable, and no cut
--- is due; where besides nothing is pending, since both sides took all or were reset, its trace is no
+-- Where it is settled, each live connection found memory, gave all that was deliverable, no cut is due,
+-- and where no call of it sleeps its idle limit isn't reached; where besides nothing is pending, since both sides took all or were reset, its trace is no
 -- longer, and if it has finished and no call of it sleeps it isn't live any more. An ended one gave
 -- its whole trace, unless it found no memory; where nothing was dropped it is whole.
-pub record SettledIsComplete (C : Config) (h : Heard) (s : State) (live : Bool)
+pub record SettledIsComplete (C : Config) (h : Heard) (k : Clock) (s : State) (live : Bool)
     (asleep : Option Asleep) (place : List Item) : Type 0 where
   pub settled_found_memory : IsSettled s → live ≡ true → h.failed ≡ false
   pub settled_gave_deliverable : IsSettled s → live ≡ true
       → GaveDeliverable C (is_some asleep) h place
-  pub settled_not_cut : IsSettled s → live ≡ true → NoCutIsDue C h place
+  pub settled_not_cut : IsSettled s → live ≡ true → NoCutIsDue C h k place
+  pub settled_in_time : IsSettled s → live ≡ true → asleep ≡ None → reached C k ≡ false
   pub drained_gave_whole_trace : IsSettled s → live ≡ true → untaken_of h place Client ≡ 0
       → untaken_of h place Server ≡ 0 → (n : ℕ) → first_items C h (length place + n) ≡ place
   pub half_close_when_due : IsSettled s → live ≡ true → asleep ≡ None → (side : Side)
@@ -107,20 +109,21 @@ pub record SettledIsComplete (C : Config) (h : Heard) (s : State) (live : Bool)
 -- server connections are than it gave up; an end that is closed took all or was reset, unless it found no
 -- memory. It isn't over while it is live; one that isn't has told that it is over, once and last, with what
 -- was sent to its sides and not taken counted as dropped, and both its ends are closed. Where no side of it
--- was reset and it found memory, nothing is dropped.
-pub record ClosesRightly (c : ℕ) (z : Seen) : Type 0 where
-  pub told : EndsTold c z
+-- was reset, its idle limit wasn't reached and it found memory, nothing is dropped.
+pub record ClosesRightly (C : Config) (c : ℕ) (z : Seen) : Type 0 where
+  pub told : EndsTold C c z
   pub closes_given_up : z.heard.finished ≡ false
       → closed_servers z.heard.notes ≤ given_up z.place
   pub dropped : z.live ≡ false → z.heard.failed ≡ false → z.heard.client.reset ≡ false
-      → any_reset z.heard.connects ≡ false → untaken_all z.heard z.place ≡ 0
+      → any_reset z.heard.connects ≡ false → is_idle C z.clock ≡ false
+      → untaken_all z.heard z.place ≡ 0
 
 -- The notes of a connection that show an item are those of the items that it passed. It finishes
 -- for its trace's reasons and for want of memory behind them, where it found none: its trace
 -- finishes once at most, never for want of memory, and has finished where it ended; a second Finish
 -- is for want of memory, and there is no third. A cut among them is
 -- allowed by what was heard in this past, and so, in the one that its Finish ends, by then.
-pub record FinishCauses (C : Config) (c : ℕ) (h : Heard) (live : Bool)
+pub record FinishCauses (C : Config) (c : ℕ) (h : Heard) (k : Clock) (live : Bool)
     (place : List Item) : Type 0 where
   pub shown : filter shows h.notes ≡ notes_of c place
   pub causes : causes_told h.notes ≡ map cause_of (reasons_in place) ++ causes_behind h.failed
@@ -129,7 +132,7 @@ pub record FinishCauses (C : Config) (c : ℕ) (h : Heard) (live : Bool)
   pub second_is_memory : (first second : Cause) (more : List Cause)
       → causes_told h.notes ≡ first ∷ second ∷ more → (second ≡ Memory) × (more ≡ [])
   pub ended_has_finished : live ≡ false → h.failed ≡ false → length (reasons_in place) ≡ 1
-  pub cut_is_allowed : (cut : Cut) → h.cut ≡ Some cut → licenses h cut.reason ≡ true
+  pub cut_is_allowed : (cut : Cut) → h.cut ≡ Some cut → licenses C h k cut.reason ≡ true
 
 -- The calls of the items that a connection passed are those of its entries in the history, each
 -- once and in their order, and its recorded answers are their replies. Behind them is one call at
@@ -165,9 +168,9 @@ SleepersNotDue past c asleep =
 pub record ConnectionPromise (C : Config) (past : Past) (s : State) (c : ℕ)
     (z : Seen) : Type 0 where
   pub sent_is_prefix : SentIsPrefix C z.heard z.place
-  pub settled_is_complete : SettledIsComplete C z.heard s z.live (s.asleep c) z.place
-  pub finish_causes : FinishCauses C c z.heard z.live z.place
-  pub closes_rightly : ClosesRightly c z
+  pub settled_is_complete : SettledIsComplete C z.heard z.clock s z.live (s.asleep c) z.place
+  pub finish_causes : FinishCauses C c z.heard z.clock z.live z.place
+  pub closes_rightly : ClosesRightly C c z
   pub entries_are_calls : EntriesAreCalls z.heard z.asked z.place
   pub sleepers_not_due : SleepersNotDue past c (s.asleep c)
   pub open_line_counts : OpenCounts past s c

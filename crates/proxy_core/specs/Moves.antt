@@ -15,9 +15,9 @@ use Rattle.conn_trace.specs.Heard.{edges_met, hears}
 use Rattle.core_events.specs.declared.edges.Edges.{Edges}
 use Rattle.conn_trace.specs.Costs.{SlicesPaid}
 use Rattle.conn_trace.specs.Item.{Item, calls_in}
-use Rattle.conn_trace.specs.Gates.{TakenCounts}
 use Rattle.conn_trace.specs.Setup.{Setup}
 use Rattle.conn_trace.specs.State.{TraceState}
+use Rattle.conn.specs.Holds.{Outside}
 use Rattle.conn.specs.RunsItems.{Passes, RunsItems, slices_in, told_behind}
 use Rattle.conn.specs.Settling.{closing, is_drained, settling_at}
 use Rattle.conn.specs.RunsItems.{out_of_memory}
@@ -27,14 +27,15 @@ use Rattle.shared_store.specs.Calls.{reply}
 use Rattle.shared_store.specs.Store.{StoreState}
 use Rattle.proxy_core.specs.Calls.{calls_of, falls_asleep, is_any, queue_behind, sleep_note, sleeps}
 use Rattle.proxy_core.specs.Calls.{without_calls, woken}
-use Rattle.record_model.specs.Clock.{is_due}
+use Rattle.record_model.specs.Clock.{clock, is_due, reached, tick_clock}
 use Rattle.record_model.specs.History.{store_of}
 use Rattle.proxy_core.specs.Live.{entry_note, takes_memory}
 use Rattle.core_events.specs.Kinds.{kind_of}
 use Rattle.record_model.specs.Past.{Happened, Past, heard, shared}
-use Rattle.proxy_core.specs.Ready.{ring_behind, with_ready, without}
+use Rattle.proxy_core.specs.Ready.{is_in, ring_behind, with_ready, without}
 use Rattle.proxy_core.specs.Refusal.{refused}
-use Rattle.proxy_core.specs.Scheduler.{State, called_by, no_connections, open_calls, with_asleep}
+use Rattle.proxy_core.specs.Scheduler.{State, called_by, entries, no_connections, open_calls}
+use Rattle.proxy_core.specs.Scheduler.{outside_of, with_asleep}
 use Rattle.proxy_core.specs.Scheduler.{with_place, with_spent, untaken_all}
 use Rattle.record_model.specs.Setup.{setup_of, stand_of}
 use Rattle.proxy_core.specs.declared.call.Asked.{Asked}
@@ -114,24 +115,24 @@ ran c ring queue asleep more slices old = record {
 }
 
 -- what is told behind the items: what is due where it rests, or until when its call sleeps
-abbrev pub told_last : ConnTurn → Setup → TakenCounts → TraceState → ℕ → Edges
+abbrev pub told_last : ConnTurn → Setup → Outside → TraceState → ℕ → Edges
     → (dropped moment : ℕ) → List Note
-told_last t g took at c e dropped moment =
-    told_behind t g took at c e dropped ++ sleep_note t c moment
+told_last t g o at c e dropped moment =
+    told_behind t g o at c e dropped ++ sleep_note t c moment
 
 -- The front gives items of its trace, until no more may be given or in slices: where it stops in
 -- the middle it goes to the back of the ready queue, and where it stops at a shared call that goes
 -- to the back of the calls, or sleeps first, which is noted behind all else. It stops in the middle
 -- behind 64 notes, or spends a slice, and all slices that it spent are paid for by what its bodies
 -- cost.
-pub record RunsOn (C : Config) (h : Heard) (moment c : ℕ) (rest : List ℕ) (group : List Note)
-    (old new : State) : Type 0 where
+pub record RunsOn (C : Config) (h : Heard) (o : Outside) (moment c : ℕ) (rest : List ℕ)
+    (group : List Note) (old new : State) : Type 0 where
   pub more : List Item
   pub at : TraceState
   pub turn : ConnTurn
   pub told : List Note
   pub items :
-      RunsItems (setup_of C h) (taken h) h.edges (stand_of C h (old.places c)) c more at told turn
+      RunsItems (setup_of C h) o h.edges (stand_of C h (old.places c)) c more at told turn
       (untaken_all h (old.places c ++ more))
   pub notes : group ≡ told ++ sleep_note turn c moment
   pub paid : SlicesPaid (setup_of C h) (old.places c ++ more) at
@@ -142,11 +143,11 @@ pub record RunsOn (C : Config) (h : Heard) (moment c : ℕ) (rest : List ℕ) (g
 
 -- The front gives items, no call among them, finds no memory, and ends: what was sent and not taken is
 -- dropped.
-pub record RunsOut (C : Config) (h : Heard) (c : ℕ) (rest : List ℕ) (group : List Note)
-    (old new : State) : Type 0 where
+pub record RunsOut (C : Config) (h : Heard) (o : Outside) (c : ℕ) (rest : List ℕ)
+    (group : List Note) (old new : State) : Type 0 where
   pub more : List Item
   pub at : TraceState
-  pub passes : Passes (setup_of C h) (taken h) (stand_of C h (old.places c)) more at
+  pub passes : Passes (setup_of C h) o (stand_of C h (old.places c)) more at
   pub no_call : calls_in more ≡ []
   pub notes : group
       ≡ out_of_memory c h.edges (stand_of C h (old.places c)).sent (taken h) more
@@ -160,16 +161,17 @@ pub record RunsFailed (h : Heard) (c : ℕ) (rest : List ℕ) (group : List Note
   pub state : new ≡ record old { ring = rest }
 
 abbrev pub MovesFront :
-    Config → Heard → (moment c : ℕ) → List ℕ → List Note → State → State → Type 0
-MovesFront C h moment c rest group old new =
+    Config → Heard → Outside → (moment c : ℕ) → List ℕ → List Note → State → State → Type 0
+MovesFront C h o moment c rest group old new =
     MatchBool h.failed (RunsFailed h c rest group old new)
-    (RunsOn C h moment c rest group old new ⊎ RunsOut C h c rest group old new)
+    (RunsOn C h o moment c rest group old new ⊎ RunsOut C h o c rest group old new)
 
 -- Where nothing is ready, a Run changes nothing.
 abbrev pub MovesRing : Config → Past → List ℕ → List Note → State → State → Type 0
 MovesRing C past [] group old new = Rests group old new
 MovesRing C past (c ∷ rest) group old new =
-    MovesFront C (heard c past) (shared past).moment c rest group old new
+    MovesFront C (heard c past) (outside_of C (heard c past) (clock c past)) (shared past).moment c
+    rest group old new
 
 -- the notes of an answered call: its entry; where the reply finds no memory, the Finish behind it;
 -- and where the store finds none, the Finish alone
@@ -200,12 +202,28 @@ abbrev pub sleeps_on : (moment : ℕ) → Option Asleep → Option Asleep
 sleeps_on moment None = None
 sleeps_on moment (Some a) = if is_due moment a.due then None else Some a
 
+-- a connection whose idle limit is reached at a moment is ready, unless it is or waits for a reply
+abbrev pub readied_by : (live idle asks : Bool) → List ℕ → ℕ → List ℕ
+readied_by true true false [] c = c ∷ []
+readied_by live idle asks ready c = []
+
+abbrev pub readied : Config → Past → (moment : ℕ) → State → ℕ → List ℕ
+readied C past moment old c =
+    readied_by (is_in (shared past).live c) (reached C (tick_clock moment (clock c past)))
+    (is_any (open_calls c old)) (entries c old.ring) c
+
 -- The calls whose time has come go to the back of the queue, in any order; all others sleep on.
-pub record MovesTick (moment : ℕ) (group : List Note) (old new : State) : Type 0 where
+-- The connections whose idle limit is reached, but those that wait for a reply, go to the back of the
+-- ready queue, in any order.
+pub record MovesTick (C : Config) (past : Past) (moment : ℕ) (group : List Note) (old new : State)
+    : Type 0 where
   pub notes : group ≡ []
   pub calls : List Asked
   pub woken : (c : ℕ) → calls_of c calls ≡ called_by (wakes moment (old.asleep c))
+  pub numbers : List ℕ
+  pub ready : (c : ℕ) → entries c numbers ≡ readied C past moment old c
   pub state : new ≡ record old {
+    ring = old.ring ++ numbers;
     queue = old.queue ++ calls;
     asleep = λ c. sleeps_on moment (old.asleep c);
   }
@@ -215,7 +233,7 @@ abbrev pub MovesBy : Config → Past → EventKind → List Note → State → S
 MovesBy C past (Accepts c vs from) group old new = MovesAccept c group old new
 MovesBy C past (Comes c input) group old new =
     MovesCome C input (heard c past) (hears c (heard c past) (Comes c input) group) c group old new
-MovesBy C past (Ticks moment) group old new = MovesTick moment group old new
+MovesBy C past (Ticks moment) group old new = MovesTick C past moment group old new
 MovesBy C past Turns group old new =
     MovesQueue (store_of C past) (shared past).moment old.queue group old new
 MovesBy C past Runs group old new = MovesRing C past old.ring group old new

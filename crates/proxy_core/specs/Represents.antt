@@ -1,5 +1,6 @@
 -- What a core stands for: a configuration, a past and a state of the scheduler.
-use Rattle.std.specs.Prelude.{◌≡◌, ◌⊎◌, ℕ, ◌+◌, ◌*◌, List, [], ◌∷◌, length, true, false, Option, Some, None, drop}
+use Rattle.std.specs.Prelude.{◌≡◌, ◌⊎◌, ℕ, ◌+◌, ◌*◌, List, [], ◌∷◌, length, map, true, false}
+use Rattle.std.specs.Prelude.{Option, Some, None, is_some, drop}
 use Rattle.conn_trace.specs.Heard.{Heard, taken}
 use Rattle.conn_trace.specs.Costs.{paid_by}
 use Rattle.conn_trace.specs.Item.{Item, client_output, server_output}
@@ -12,6 +13,8 @@ use Rattle.conn.specs.declared.stage.Stage.TheVariants.{OutOfMemory}
 use Rattle.proxy_core.specs.Bodies.{all_places}
 use Rattle.shared_store.specs.Store.{StoreState}
 use Rattle.proxy_core.specs.Calls.{is_any, sleepers_of}
+use Rattle.record_model.specs.Clock.{is_idle}
+use Rattle.proxy_core.specs.Asked.{idle_due}
 use Rattle.record_model.specs.History.{store_of}
 use Rattle.proxy_core.specs.Live.{asks_in, edges_in}
 use Rattle.record_model.specs.Past.{Past, Shared, shared}
@@ -28,11 +31,12 @@ use Rattle.proxy_core.specs.declared.call.Asleep.{Asleep}
 use Rattle.proxy_core.specs.declared.live.Live.{Live}
 
 -- what was told of it from outside
-abbrev pub around : Heard → Around
-around h = record {
-  took = taken h;
-  counted = h.client.took;
-  counted_server = last_took h.connects;
+abbrev pub around : Config → Seen → Around
+around C z = record {
+  took = taken z.heard;
+  idle = is_idle C z.clock;
+  counted = z.heard.client.took;
+  counted_server = last_took z.heard.connects;
 }
 
 -- What waits for its sides is what was sent to them and not taken: to the server's, of the last that was
@@ -47,7 +51,7 @@ pub record HoldsQueues (h : Heard) (place : List Item) (e : Ends) : Type 0 where
 -- for, each with 1,991 steps
 pub record Continues (C : Config) (z : Seen) (conn : Conn) : Type 0 where
   pub not_failed : z.heard.failed ≡ false
-  pub holds : Holds (setup_of C z.heard) (around z.heard) (stand_of C z.heard z.place) conn
+  pub holds : Holds (setup_of C z.heard) (around C z) (stand_of C z.heard z.place) conn
   pub queues : HoldsQueues z.heard z.place conn.ends
   pub paid : Paid (setup_of C z.heard) (stand_of C z.heard z.place) conn (1991 * z.spent)
       (paid_by z.place)
@@ -58,7 +62,7 @@ pub record Lacks (C : Config) (z : Seen) (conn : Conn) : Type 0 where
   pub failed : z.heard.failed ≡ true
   pub finished : z.heard.finished ≡ true
   pub there : conn.stage ≡ OutOfMemory
-  pub ends : HoldsEnds (around z.heard) (stand_of C z.heard z.place) conn.ends
+  pub ends : HoldsEnds (around C z) (stand_of C z.heard z.place) conn.ends
   pub queues : HoldsQueues z.heard z.place conn.ends
 
 -- no memory was found for it when it was accepted
@@ -72,13 +76,15 @@ ConnectionContinues C z None = NeverBegan z
 ConnectionContinues C z (Some conn) = Continues C z conn ⊎ Lacks C z conn
 
 -- a live connection goes on, its rules are those of its virtual server, its ends stand where what
--- was heard put them, and it waits for a reply where a call of it is open
+-- was heard put them, it waits for a reply where a call of it is open, and it knows whether it was cut
+-- for its idle limit
 pub record AgreesLive (C : Config) (z : Seen) (l : Live) : Type 0 where
   pub live : z.live ≡ true
   pub continues : ConnectionContinues C z l.conn
   pub serves : Serves C (statics_of C) l.vs (setup_of C z.heard)
   pub edges : z.heard.edges ≡ edges_in l
   pub asking : asks_in l.conn ≡ is_any z.asked
+  pub cut : l.cut ≡ is_some z.clock.cut
 
 abbrev pub AgreesAt : Config → Seen → Option Live → Type 0
 AgreesAt C z None = z.live ≡ false
@@ -96,6 +102,10 @@ listed (Some a) = a ∷ []
 abbrev pub AgreesAsleep : (ℕ → Option Asleep) → List Asleep → Type 0
 AgreesAsleep asleep held = (c : ℕ) → sleepers_of c held ≡ listed (asleep c)
 
+-- of the deadlines of live connections each is when its idle limit is reached
+abbrev pub AgreesDues : Config → (ℕ → Seen) → List Live → List (Option ℕ) → Type 0
+AgreesDues C each_seen live dues = dues ≡ map (λ l. idle_due C (each_seen l.number).clock) live
+
 -- the core's fields are those of the past and the state, connection by connection
 pub record AgreesBy (C : Config) (all : Shared) (store : StoreState) (each_seen : ℕ → Seen)
     (s : State) (core : Core) : Type 0 where
@@ -107,6 +117,7 @@ pub record AgreesBy (C : Config) (all : Shared) (store : StoreState) (each_seen 
   pub ring : core.live.ring ≡ s.ring
   pub queue : core.queue.items ≡ s.queue
   pub asleep : AgreesAsleep s.asleep core.queue.asleep
+  pub dues : AgreesDues C each_seen core.live.items core.live.dues
   pub each : (c : ℕ) → AgreesAt C (each_seen c) (live_at core.live.items c)
 
 abbrev pub Agrees : Config → Past → State → Core → Type 0

@@ -57,8 +57,11 @@ impl Core {
             from,
             conn,
             edges: Edges::accepted(),
+            cut: false,
         };
+        let at = self.live.len();
         self.live.push(number, live);
+        self.restart(at);
         Ok(())
     }
 }

@@ -200,7 +200,7 @@ fn due_until(due: u64) -> Option<u64>
     if due < u64::MAX { Some(due) } else { None }
 }
 
-fn lesser(one: Option<u64>, other: Option<u64>) -> Option<u64>
+pub(crate) fn lesser(one: Option<u64>, other: Option<u64>) -> Option<u64>
     ensures { result ≡ lesser one other }
 {
     match (one, other) {

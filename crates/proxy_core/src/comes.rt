@@ -11,6 +11,14 @@ use crate::core_state::Core;
 use crate::ring::{find, wake};
 use core_events::{BadEvent, Input, Notes};
 
+// Whether it is counted as activity.
+fn is_activity(input: &Input) -> bool {
+    matches!(
+        input,
+        Input::Bytes(..) | Input::Takes(..) | Input::Connects(true)
+    )
+}
+
 impl Core {
     /// This comes of a connection, which ends, waits on for the reply to its call, or gets
     /// ready. One that waited and finds no memory waits no more.
@@ -41,6 +49,9 @@ impl Core {
         if self.live[at].comes(input, notes) {
             drop(self.live.remove(at));
         } else {
+            if is_activity(input) {
+                self.restart(at);
+            }
             let waits = self.live[at].is_asking();
             self.queue.forget(number, waited, waits);
             wake(&mut self.live, at, waits);

@@ -21,7 +21,7 @@ ghost use Rattle.proxy_core.specs.Live.{pending_in, takes_memory, wanted_of};
 
 use crate::call::Asked;
 use conn::{Conn, ConnTurn, Setup, close};
-use core_events::{BadEvent, Cause, EdgeState, Edges, Input, Note, Notes};
+use core_events::{BadEvent, Cause, CutReason, EdgeState, Edges, Input, Note, Notes};
 use frames::Moves;
 use px_bytes::{Addr, M, Reply, Side, Steps};
 use shared_store::Store;
@@ -42,6 +42,8 @@ pub struct Live {
     pub conn: Option<Conn>,
     /// Where the ends of one stand for which no memory was found.
     pub edges: Edges,
+    /// Whether it was cut for the idle limit.
+    pub cut: bool,
 }
 
 impl Live {
@@ -164,8 +166,12 @@ impl Live {
             ≡ edges_noted group (edges_met input.now (edges_in self.old))) }
         ensures few_notes { length notes.new.items ≤ length notes.old.items + 68 }
     {
+        let cut = self.cut;
         match &mut self.conn {
-            Some(conn) => tell(conn, input, self.number, notes),
+            Some(conn) => {
+                take_back(conn, input, cut);
+                tell(conn, input, self.number, notes)
+            }
             None => {
                 self.edges = met(self.edges, input);
                 false
@@ -277,12 +283,24 @@ impl Live {
         ensures few_asked { asks result ≡ true
             → (1 ≤ notes.new.spare) × (length notes.new.items ≤ length notes.old.items + 67) }
     {
+        let given = notes.len();
         match &mut self.conn {
-            Some(conn) => conn.run::<S, L>(alloc, setup, self.number, steps, notes),
+            Some(conn) => {
+                let turn = conn.run::<S, L>(alloc, setup, self.number, steps, notes);
+                self.cut = self.cut || tells_idle_cut(self.number, notes, given);
+                turn
+            }
             None => {
                 end(self.number, &mut self.edges, notes);
                 ConnTurn::Over
             }
+        }
+    }
+
+    /// The idle limit is reached.
+    pub fn idle(&mut self) {
+        if let Some(conn) = &mut self.conn {
+            conn.limit(true);
         }
     }
 }
@@ -297,6 +315,32 @@ fn end(number: u32, edges: &mut Edges, notes: &mut Notes)
         conn: number,
         dropped: 0,
     });
+}
+
+// Bytes take it back that the idle limit was reached, unless it was cut for that.
+fn take_back(conn: &mut Conn, input: &Input, cut: bool) {
+    if let Input::Bytes(..) = input {
+        if !cut {
+            conn.limit(false);
+        }
+    }
+}
+
+// Whether notes from a place on tell that this connection was cut for the idle limit.
+fn tells_idle_cut(number: u32, notes: &Notes, from: usize) -> bool {
+    notes.as_slice()[from..]
+        .iter()
+        .any(|note| is_idle_cut(number, note))
+}
+
+fn is_idle_cut(number: u32, note: &Note) -> bool {
+    match note {
+        Note::Finish {
+            conn,
+            cause: Cause::Cut(CutReason::Idle),
+        } => *conn == number,
+        _ => false,
+    }
 }
 
 // Where it puts the ends of a connection.

@@ -10,6 +10,7 @@ ghost use Rattle.proxy_core.specs.Represents.{Represents};
 ghost use Rattle.proxy_core.specs.Scheduler.{State};
 ghost use Rattle.run_config.specs.declared.config.Config.{Config};
 
+use crate::call_queue::lesser;
 use crate::core_state::Core;
 use core_events::Edges;
 use px_bytes::{M, Side, Text};
@@ -34,13 +35,13 @@ impl Core {
         self.live.next_ready()
     }
 
-    /// The least moment above the present one at which something is due: a call wakes. None where
-    /// none does.
+    /// The least moment above the present one at which something is due: a call wakes, or a connection
+    /// reaches the idle limit. None where nothing is.
     pub fn next_due(&self) -> Option<u64>
         ensures { (C : Config) (past : Past) (s : State) → Represents C past s self.now
             → result ≡ next_due_of C past s }
     {
-        self.queue.next_due()
+        lesser(self.queue.next_due(), self.live.next_due())
     }
 
     /// The present moment.

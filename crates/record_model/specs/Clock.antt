@@ -20,11 +20,6 @@ use Rattle.record_model.specs.Past.{Happened, Past, heard, shared}
 use Rattle.record_model.specs.Setup.{begins_at, setup_of}
 use Rattle.run_config.specs.declared.config.Config.{Config}
 
--- Moments have 64 bits. The greatest stands for all above too: a call that sleeps until then never
--- wakes, and an idle limit that lies there is never reached.
-abbrev pub never : ℕ
-never = 2 ^ 64 - 1
-
 -- The moment of the last Tick, 0 at the start; when it was accepted, or last gave bytes, was connected
 -- or took bytes; the longest time behind that at which a Tick lay, since its last bytes; until when its
 -- call sleeps or slept, where it has one that wasn't answered yet and that did; and the longest time
@@ -57,12 +52,9 @@ accepted_clock k = record {
   cut = None;
 }
 
--- how long it was without activity
-abbrev pub lapse : (moment : ℕ) → Clock → ℕ
-lapse moment k = min moment (never - 1) - k.active
-
 abbrev pub tick_clock : (moment : ℕ) → Clock → Clock
-tick_clock moment k = record k { moment = moment; longest = max k.longest (lapse moment k) }
+tick_clock moment k =
+    record k { moment = moment; longest = max k.longest (moment - k.active) }
 
 abbrev pub event_clock : ℕ → EventKind → Clock → Clock
 event_clock c (Accepts d vs from) k = if nat_eq d c then accepted_clock k else k
@@ -107,13 +99,22 @@ is_idle C k = reached C k || is_some k.cut
 
 -- when it would be reached, where nothing comes
 abbrev pub idles_at : Config → Clock → ℕ
-idles_at C k = min (k.active + idle_limit C) never
+idles_at C k = k.active + idle_limit C
 
--- it was cut for its limit only where that was reached
-abbrev pub IdleCutIsDue : Config → Clock → Type 0
-IdleCutIsDue C k = (time : ℕ) → k.cut ≡ Some time → idle_limit C ≤ time
+-- it was cut for its limit, which was reached then
+abbrev pub cut_behind : (limit : ℕ) → (cut : Option ℕ) → Bool
+cut_behind limit None = false
+cut_behind limit (Some time) = nat_le limit time
+
+abbrev pub idle_cut_is_due : Config → Clock → Bool
+idle_cut_is_due C k = cut_behind (idle_limit C) k.cut
 
 -- ---- calls that sleep
+
+-- Moments have 64 bits. The greatest stands for all above too, and a call that sleeps until then
+-- never wakes.
+abbrev pub never : ℕ
+never = 2 ^ 64 - 1
 
 -- until when a call that is asked at a moment sleeps
 abbrev pub wakes_at : (moment : ℕ) → List (List ℕ) → ℕ
