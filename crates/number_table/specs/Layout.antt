@@ -1,6 +1,7 @@
 -- How a `Table` keeps its values. No public clause cites this module.
-use Rattle.std.specs.Prelude.{◌≡◌, ℕ, List, [], ◌∷◌, true, false, length, map}
-use Rattle.std.specs.Prelude.{Option, Some, None, IsSome, nat_eq}
+use Rattle.std.specs.Prelude.{◌≡◌, ℕ, ◌<◌, ◌≤◌, ◌^◌, List, [], ◌∷◌, true, false, Bool, length, map, get_or}
+use Rattle.std.specs.Prelude.{Option, Some, None, IsSome, is_some, nat_eq}
+use Rattle.index_lists.specs.Wheel.{due_of}
 use Rattle.std.specs.List.{AllByRecursion, IsDistinct}
 use Rattle.slab.specs.Slab.{Slab, get, slab_len}
 use Rattle.number_table.specs.Table.{Rises, is_in}
@@ -17,6 +18,24 @@ Apart (e ∷ es) = AllByRecursion (λ x. nat_eq e.key x.key ≡ false) es × Apa
 -- each entry tells whether its number is in the ring
 abbrev pub Flagged : List ℕ → List Entry → Type 0
 Flagged ring es = AllByRecursion (λ e. e.ready ≡ is_in ring e.number) es
+
+-- the deadlines of these entries, by their keys
+abbrev pub dues_of : List (Option ℕ) → List Entry → List (Option ℕ)
+dues_of dues es = map (λ e. due_of dues e.key) es
+
+abbrev pub has_key : List Entry → ℕ → Bool
+has_key es key = is_in (map (λ e. e.key) es) key
+
+-- each key may have a deadline, and a number stands by it: that of its entry, where it has one; only
+-- such keys have a deadline
+pub record IsTimed (dues : List (Option ℕ)) (owners : List ℕ) (keys : ℕ) (es : List Entry)
+    : Type 0 where
+  pub within : AllByRecursion (λ e. e.key < length dues) es
+  pub owned : AllByRecursion (λ e. get_or owners e.key 0 ≡ e.number) es
+  pub known : (key : ℕ) → is_some (due_of dues key) ≡ true → has_key es key ≡ true
+  pub room : keys ≤ length dues
+  pub beside : length owners ≡ length dues
+  pub few : length dues < 2 ^ 32
 
 module _ {T : Type 0} where
   abbrev pub put : Option T → List T → List T

@@ -1,11 +1,12 @@
 //! Values under rising numbers, found without a scan, the ring of those that are ready, and a deadline for each.
 #![tactic(auto)]
 
-ghost use Rattle.std.specs.Prelude.{◌≡◌, ℕ, ◌+◌, ◌<◌, ◌↔◌, IsTrue, [], ◌∷◌, ◌++◌, true, Some, IfOk, IfSome, IfNone, length};
+ghost use Rattle.std.specs.Prelude.{◌≡◌, ℕ, ◌+◌, ◌<◌, ◌^◌, ◌↔◌, IsTrue, [], ◌∷◌, ◌++◌, true, Some, IfOk, IfSome, IfNone, None, length, replicate, slice_set};
 ghost use Rattle.std.specs.Prelude.{remove, slice_index, slice_get};
 ghost use Rattle.std.specs.Borrow.{sem};
 ghost use Rattle.number_table.specs.Layout.{numbers_of};
-ghost use Rattle.number_table.specs.Table.{Rises, is_in, place_in, with_ready, without, Pops};
+ghost use Rattle.index_lists.specs.Wheel.{IsNext, NoneDue, due_of};
+ghost use Rattle.number_table.specs.Table.{Overdue, Rises, is_in, place_in, with_ready, without, Pops};
 
 use index_lists::{Ring, Wheel};
 use slab::Slab;
@@ -37,7 +38,7 @@ struct Entry {
 impl<T> Model for Table<T> {
     ghost use Rattle.std.specs.Prelude.{◌≤◌, vec_capacity};
     ghost use Rattle.number_table.specs.Table.{Table as Values, table_code};
-    ghost use Rattle.number_table.specs.Layout.{items_of, numbers_of, IsSound};
+    ghost use Rattle.number_table.specs.Layout.{dues_of, items_of, numbers_of, IsSound, IsTimed};
 
     ghost Value = { Values T };
 
@@ -47,11 +48,13 @@ impl<T> Model for Table<T> {
       items = items_of s.values s.entries.items;
       numbers = numbers_of s.entries.items;
       ring = s.ring.items;
+      dues = dues_of s.dues.dues s.entries.items;
       room = vec_capacity s.entries;
     } };
 
     ghost invariant = { λ s. IsSound s.values s.entries.items s.ring.items
-        × ((vec_capacity s.entries ≤ s.values.capacity) × (vec_capacity s.entries ≤ s.ring.room)) };
+        × (((vec_capacity s.entries ≤ s.values.capacity) × (vec_capacity s.entries ≤ s.ring.room))
+        × IsTimed s.dues.dues s.owners.items s.values.capacity s.entries.items) };
 }
 
 impl<T> Table<T> {
@@ -62,20 +65,19 @@ impl<T> Table<T> {
         ensures items { IfOk result (λ s. s.items ≡ []) }
         ensures numbers { IfOk result (λ s. s.numbers ≡ []) }
         ensures ring { IfOk result (λ s. s.ring ≡ []) }
+        ensures dues { IfOk result (λ s. s.dues ≡ []) }
         ensures room { IfOk result (λ s. s.room ≡ room) }
     {
         let mut ring = Ring::new(alloc);
         ring.reserve(room)?;
         let values = Slab::with_capacity(alloc, room)?;
-        let keys = values.capacity();
-        let mut dues = Wheel::new(alloc);
-        dues.reserve(u32::try_from(keys).unwrap_or(u32::MAX))?;
+        let (dues, owners) = timed(alloc, values.capacity())?;
         Ok(Table {
             values,
             entries: Vec::with_capacity(alloc, room)?,
             ring,
             dues,
-            owners: vec![in alloc; 0; keys]?,
+            owners,
         })
     }
 
@@ -117,6 +119,7 @@ impl<T> Table<T> {
         ensures len { length self.new.items ≡ length self.old.items + 1 }
         ensures numbers { self.new.numbers ≡ self.old.numbers ++ number ∷ [] }
         ensures ring { self.new.ring ≡ self.old.ring ++ number ∷ [] }
+        ensures dues { self.new.dues ≡ self.old.dues ++ None ∷ [] }
         ensures room { self.new.room ≡ self.old.room }
     {
         let key = self.values.insert_reserved(value);
@@ -138,6 +141,7 @@ impl<T> Table<T> {
         ensures len { length self.new.items + 1 ≡ length self.old.items }
         ensures numbers { self.new.numbers ≡ remove self.old.numbers at }
         ensures ring { self.new.ring ≡ without (slice_index self.old.numbers at) self.old.ring }
+        ensures dues { self.new.dues ≡ remove self.old.dues at }
         ensures room { self.new.room ≡ self.old.room }
     {
         let entry = self.entries.remove(at);
@@ -146,12 +150,13 @@ impl<T> Table<T> {
         self.values.remove(entry.key)
     }
 
-    /// The value at a place has this deadline from now on.
+    /// The value at a place has this deadline from now on, or none.
     pub fn set_due(&mut self, at: usize, due: Option<u64>)
         requires { at < length self.old.items }
         ensures items { self.new.items ≡ self.old.items }
         ensures numbers { self.new.numbers ≡ self.old.numbers }
         ensures ring { self.new.ring ≡ self.old.ring }
+        ensures dues { self.new.dues ≡ slice_set self.old.dues at due }
         ensures room { self.new.room ≡ self.old.room }
     {
         let key = self.entries[at].key as u32;
@@ -171,13 +176,19 @@ impl<T> Table<T> {
         ensures ring { self.new.ring ≡ self.old.ring }
         ensures room { self.new.room ≡ self.old.room }
         ensures within { IfSome result (λ at. at < length self.old.items) }
+        ensures due { IfSome result (λ at. Overdue self.old self.new moment at) }
+        ensures none { IfNone result (NoneDue self.old.dues moment) }
+        ensures kept { IfNone result (self.new ≡ self.old) }
     {
-        let key = self.dues.advance(moment)?;
-        find(&self.entries, self.owners[key as usize])
+        let key = self.dues.advance(moment)? as usize;
+        find(&self.entries, self.owners[key])
     }
 
     /// The least deadline.
-    pub fn next_due(&self) -> Option<u64> {
+    pub fn next_due(&self) -> Option<u64>
+        ensures some { IfSome result (λ due. IsNext self.now.dues due) }
+        ensures none { IfNone result ((at : ℕ) → due_of self.now.dues at ≡ None) }
+    {
         self.dues.next_due()
     }
 
@@ -187,6 +198,7 @@ impl<T> Table<T> {
         ensures items { self.new.items ≡ self.old.items }
         ensures numbers { self.new.numbers ≡ self.old.numbers }
         ensures ring { self.new.ring ≡ with_ready self.old.ring (slice_index self.old.numbers at) }
+        ensures dues { self.new.dues ≡ self.old.dues }
         ensures room { self.new.room ≡ self.old.room }
     {
         let entry = self.entries[at];
@@ -204,6 +216,7 @@ impl<T> Table<T> {
         ensures none { IfNone result ((self.old.ring ≡ []) × (self.new.ring ≡ [])) }
         ensures items { self.new.items ≡ self.old.items }
         ensures numbers { self.new.numbers ≡ self.old.numbers }
+        ensures dues { self.new.dues ≡ self.old.dues }
         ensures room { self.new.room ≡ self.old.room }
     {
         let number = self.ring.pop()?;
@@ -238,6 +251,21 @@ impl<T> IndexMut<usize> for Table<T> {
         let key = self.entries[at].key;
         &mut self.values[key]
     }
+}
+
+// So many keys may have deadlines, and a number stands by each. Memory is refused where those are too many
+// to be counted.
+fn timed(alloc: Global, keys: usize) -> Result<(Wheel, Vec<u32>), AllocError>
+    ensures dues { IfOk result (λ t. t.0.dues ≡ replicate keys None) }
+    ensures few { IfOk result (λ t. keys < 2 ^ 32) }
+    ensures owners { IfOk result (λ t. length t.1.items ≡ keys) }
+{
+    let Ok(numbers) = u32::try_from(keys) else {
+        return Err(AllocError);
+    };
+    let mut dues = Wheel::new(alloc);
+    dues.reserve(numbers)?;
+    Ok((dues, vec![in alloc; 0; keys]?))
 }
 
 // The place of a number.

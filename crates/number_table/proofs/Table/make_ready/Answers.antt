@@ -4,6 +4,7 @@ use Rattle.number_table.proofs.Entries.{items_same}
 use Rattle.number_table.proofs.Numbers.{length_numbers, numbers_set}
 use Rattle.number_table.proofs.Ring.{flag_at, in_numbers, ring_room}
 use Rattle.number_table.proofs.Sounds.{entry_within, read_same, ready_goes, ready_stays, sound_ready}
+use Rattle.number_table.proofs.Timed.{dues_set, timed_set}
 use Rattle.number_table.proofs.Table.make_ready.Goals as goal
 
 pub index-entry-requires : goal.index-entry-requires
@@ -37,7 +38,7 @@ push-requires-clause-room g c =
     let h = slice_get_read es (length es) c.args.at e refl w c.index-entry.ensures in
     let absent = sym (flag_at c.args.at _ es e z.flagged h) ∙ c.if-entry.false in
     let fewer = ring_room _ _ e.number z.once z.known absent (in_numbers c.args.at es e h) in
-    omega (arith, fewer, length_numbers es, c.self.inside.entries.ok.0, c.self.inside.entries.ok.1, c.self.invariant.1.1)
+    omega (arith, fewer, length_numbers es, c.self.inside.entries.ok.0, c.self.inside.entries.ok.1, c.self.invariant.1.0.1)
 
 pub push-requires-clause-absent : goal.push-requires-clause-absent
 push-requires-clause-absent g c =
@@ -59,7 +60,7 @@ invariant_of-self g c =
     let same = read_same c.args.at es m e (slice_get_read es (length es) c.args.at m refl w c.index_mut.ensures.value) h in
     rw c.push.ensures.items (
       sound_ready c.args.at _ es _ e (record { number = m.number; key = m.key; ready = true }) z h c.if-entry.false (ap (λ y. y.number) same) (ap (λ y. y.key) same) refl,
-      (c.self.invariant.1.0, omega (arith, c.self.invariant.1.1, c.push.ensures.room)),
+      ((c.self.invariant.1.0.0, omega (arith, c.self.invariant.1.0.1, c.push.ensures.room)), timed_set _ _ _ c.args.at es e (record { number = m.number; key = m.key; ready = true }) c.self.invariant.1.1 h (ap (λ y. y.number) same) (ap (λ y. y.key) same)),
     )
 
 pub returns-clause-items : goal.returns-clause-items
@@ -87,3 +88,12 @@ returns-clause-ring g c =
     let w = entry_within c.args.at c.self.inside.values es z.held (rw (← c.self.view_is) at c.requires) in
     let h = slice_get_read es (length es) c.args.at c.index-entry.result.now refl w c.index-entry.ensures in
     rw (← c.self.view_is, c.push.ensures.items) (sym (ready_goes c.args.at es _ _ z.flagged h c.if-entry.false))
+
+pub returns-clause-dues : goal.returns-clause-dues
+returns-clause-dues g c =
+    let es = c.self.inside.entries.items in
+    let z = c.self.invariant.0 in
+    let w = entry_within c.args.at c.self.inside.values es z.held (rw (← c.self.view_is) at c.requires) in
+    let m = c.index_mut.result.now in
+    let h = slice_get_read es (length es) c.args.at m refl w c.index_mut.ensures.value in
+    rw (← c.self.view_is) (dues_set c.self.inside.dues.dues c.args.at es m (record { number = m.number; key = m.key; ready = true }) h refl)
