@@ -154,9 +154,9 @@ client_ends : (b : Bool) → ends_rests b ClientReset ≡ true
 client_ends true = refl
 client_ends false = refl
 
-pub idle_ends : (b : Bool) → ends_rests b Idle ≡ true
-idle_ends true = refl
-idle_ends false = refl
+pub idle_rests : (b : Bool) → ends_rests b Idle ≡ true
+idle_rests true = refl
+idle_rests false = refl
 
 not_over : (o : Next) → plain_rest o ≡ true → o ≡ Over → ⊥
 not_over o p over = let x = sym p ∙ ap plain_rest over in cc
@@ -316,7 +316,7 @@ module _ (s : code_setup.Setup) (g : Setup) (serves : Serves s g) (a : Around) (
       by_idle : l.finished ≡ false → (b : Bool) → old.ends.idle ≡ b → (if b then Some Idle else None) ≡ Some reason → Due waits reason
       by_idle f true e n =
           let same : Idle ≡ reason = cc in
-          (f, ap (λ r. licenses r l (outside a)) (sym same) ∙ h.ends.idle ∙ e, inl (ap (ends_rests g.http) (sym same) ∙ idle_ends g.http))
+          (f, ap (λ r. licenses r l (outside a)) (sym same) ∙ h.ends.idle ∙ e, inl (ap (ends_rests g.http) (sym same) ∙ idle_rests g.http))
       by_idle f false e n = absurd (let x = n in cc)
 
       by_server : l.finished ≡ false → (b : Bool) → server_cuts waits old ≡ b → (if b then Some ServerReset else idle_cut old) ≡ Some reason → Due waits reason

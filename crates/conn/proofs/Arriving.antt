@@ -12,8 +12,8 @@ use Rattle.conn_trace.specs.Item.{Choice}
 use Rattle.conn_trace.specs.Setup.{Handler, Setup}
 use Rattle.conn_trace.specs.State.{Cut, ServerSide, Stream, There, TraceState, Leaving, Retired}
 use Rattle.conn_trace.proofs.Streams.{nothing_stream, nothing_server, nothing_on_last}
-use Rattle.conn.specs.Calls.{Hears, Resets, coming_of, ended_ends, heard_ends, none_at_last, reset_end, reset_ends, reset_in, unless_finished}
-use Rattle.conn.specs.Ends.{arrived, behind_of, connects_by, fresh_end, has_stream, heard_by, heard_end, hears_at, is_up, server_by, servers_by, number_by}
+use Rattle.conn.specs.Calls.{Hears, Limits, Resets, coming_of, ended_ends, heard_ends, idle_in, none_at_last, reset_end, reset_ends, reset_in, unless_finished}
+use Rattle.conn.specs.Ends.{arrived, behind_of, connects_by, fresh_end, has_stream, heard_by, heard_end, hears_at, idle_ends, is_up, number_by, server_by, servers_by}
 use Rattle.conn.specs.Events.{event_of}
 use Rattle.conn.specs.Holds.{Around, Between, Holds, HoldsEnds, RunsFirst, Stands}
 use Rattle.conn.specs.Stages.{fits, has_finished}
@@ -357,6 +357,27 @@ resets_ends a l Server e h =
       connecting = h.connecting;
       idle = h.idle;
     }
+
+-- its idle limit is reached, or that is taken back
+limits_ends : (a : Around) (l : TraceState) (reached : Bool) (e : Ends) → HoldsEnds a l e → HoldsEnds (idle_in reached a) l (idle_ends reached e)
+limits_ends a l reached e h = record {
+  client = h.client;
+  client_took = h.client_took;
+  client_untaken = h.client_untaken;
+  server = h.server;
+  connects = h.connects;
+  earlier = h.earlier;
+  number = h.number;
+  servers_took = h.servers_took;
+  server_untaken = h.server_untaken;
+  took_all = h.took_all;
+  nothing_came = h.nothing_came;
+  connecting = h.connecting;
+  idle = refl;
+}
+
+pub limits : (reached : Bool) (old : Conn) → Limits reached old (with_ends (idle_ends reached old.ends) old)
+limits reached old g a l h = holds g a (idle_in reached a) l l.client l.server l.answers.connects old (idle_ends reached old.ends) h (limits_ends a l reached old.ends h.ends) h.fits (λ u. u) (λ e. e)
 
 reset_link : (side : Side) (e : Ends) → (reset_ends side e).link ≡ e.link
 reset_link Client e = refl

@@ -36,7 +36,7 @@ use Rattle.conn.specs.declared.turn.Act.TheVariants as done
 use Rattle.conn.specs.declared.turn.ConnTurn.{ConnTurn}
 use Rattle.conn.specs.declared.turn.ConnTurn.TheVariants as turn
 use Rattle.conn.proofs.Telling.{Tells}
-use Rattle.conn.proofs.Acting.{idle_ends, rest_ends}
+use Rattle.conn.proofs.Acting.{idle_rests, rest_ends}
 use Rattle.conn.proofs.Advancing.{asks_there, rests_asking}
 use Rattle.conn.proofs.Arriving.{holds, with_edges}
 use Rattle.conn.proofs.Giving.{Gave, edges_on, gave_none, gave_more}
@@ -279,7 +279,7 @@ in_time g a l conn h rests uncut quiet kept = by_idle a.idle refl
     not_over idle over = true≢false (ap is_over (sym over) ∙ over_at g a l conn h ∙ not_draining idle)
 
     taken : a.idle ≡ true → takes_cut g (record { reason = Idle; took = a.took }) l.sent (next_item g l) ≡ true
-    taken idle = rest_ends g Idle a.took l.sent (next_item g l) (idle_ends g.http) rests (not_over idle)
+    taken idle = rest_ends g Idle a.took l.sent (next_item g l) (idle_rests g.http) rests (not_over idle)
 
     by_finished : a.idle ≡ true → (b : Bool) → l.finished ≡ b → ⊥
     by_finished idle true f = true≢false (sym (drains g conn.stage l conn h.stage quiet (sym h.finished ∙ f)) ∙ not_draining idle)

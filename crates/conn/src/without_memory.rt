@@ -1,10 +1,11 @@
 // A connection to which memory was refused.
 
-ghost use Rattle.std.specs.Prelude.{◌≡◌, ◌≤◌, [], ◌∷◌, ◌++◌};
+ghost use Rattle.std.specs.Prelude.{◌≡◌, ◌≤◌, [], ◌∷◌, ◌++◌, if◌then◌else◌};
 ghost use Rattle.core_events.specs.declared.note.Note.TheVariants as noted;
 ghost use Rattle.core_events.specs.declared.note.Cause.TheVariants as causes;
 ghost use Rattle.conn.specs.Settling.{DropsReset};
-ghost use Rattle.conn.specs.Queues.{dropped_by};
+ghost use Rattle.conn.specs.Ends.{queued_in};
+ghost use Rattle.conn.specs.Queues.{dropped_by, drops_in, lost_in};
 ghost use Rattle.conn.specs.Runs.{DropsQueued};
 ghost use Rattle.conn.specs.Stages.{failed};
 
@@ -36,8 +37,19 @@ impl Conn {
     {
         match self.stage {
             Stage::Dropped(dropped) => dropped,
-            _ if self.drops() => self.ends.queued(),
-            _ => self.ends.lost(),
+            _ => self.given_up(),
+        }
+    }
+
+    // What resets left untaken, or all that is left, where that is dropped.
+    fn given_up(&self) -> usize
+        ensures { result ≡ (if drops_in self.now then queued_in self.now.ends
+            else lost_in self.now.ends) }
+    {
+        if self.drops() {
+            self.ends.queued()
+        } else {
+            self.ends.lost()
         }
     }
 

@@ -5,6 +5,7 @@ use Rattle.std.specs.Prelude.{if◌then◌else◌}
 use Rattle.std.specs.Coded.{Coded, code_by, coded×, coded_ℕ, coded_list, coded_option}
 use Rattle.std.specs.List.{AllByRecursion, position_from}
 pub use Rattle.index_lists.specs.Ring.{is_in, without}
+pub use Rattle.index_lists.specs.Wheel.{IsNext, NoneDue, due_of}
 
 -- the values, by rising number; their numbers; the numbers of those that are ready, the next in
 -- front; the deadline of each value, or none; and how many values there is room for

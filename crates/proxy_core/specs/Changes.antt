@@ -1,6 +1,8 @@
 -- What an event changes in a core, and the notes that come of it.
 use Rattle.std.specs.Prelude.{◌≡◌, ◌⊎◌, ℕ, ◌+◌, ◌<◌, ◌≤◌, List, [], ◌∷◌, ◌++◌, length, Bool, true, false}
-use Rattle.std.specs.Prelude.{Option, Some, None, slice_get, slice_set, remove}
+use Rattle.std.specs.Prelude.{Option, Some, None, slice_get, slice_set, remove, get_or, map}
+use Rattle.std.specs.Prelude.{◌^◌, ◌&&◌, ◌||◌, not, nat_eq, nat_le, nat_lt, if◌then◌else◌}
+use Rattle.std.specs.List.{filter}
 use Rattle.px_bytes.specs.declared.addr.Addr.{Addr}
 use Rattle.tcl_vars.specs.Scopes.{Level}
 use Rattle.core_events.specs.declared.note.Cause.TheVariants.{Memory}
@@ -26,8 +28,10 @@ use Rattle.shared_store.specs.Store.{at_moment, marked}
 use Rattle.proxy_core.specs.Calls.{queue_behind, sleep_note, sleepers_behind, sleeping_on}
 use Rattle.proxy_core.specs.Calls.{without_calls, without_sleepers, woken, woken_calls}
 use Rattle.proxy_core.specs.Live.{KeepsPlace, LiveAnswers, MayCome, LiveComes, LiveRuns, SamePlace}
-use Rattle.proxy_core.specs.Live.{asks_in, edges_in}
-use Rattle.proxy_core.specs.Ready.{place_of, ring_behind, with_ready, without}
+use Rattle.proxy_core.specs.Live.{asks_in, edges_in, idled, is_activity, tells_idle_cut}
+use Rattle.number_table.specs.Table.{NoneDue}
+use Rattle.record_model.specs.Clock.{idle_limit}
+use Rattle.proxy_core.specs.Ready.{is_in, place_of, ring_behind, with_ready, without}
 use Rattle.record_model.specs.Setup.{virtual_place}
 use Rattle.proxy_core.specs.Serving.{IsSetup}
 use Rattle.proxy_core.specs.declared.call.Asked.{Asked}
@@ -54,6 +58,11 @@ BeginsAt statics places C number place from conn group =
     (s : Setup) × IsSetup C statics places place s × Begun s number from conn group
 
 -- an accepted connection goes to the back of the ring
+-- the deadline of one whose idle limit is counted from now on, where that can come
+abbrev pub limit_at : Config → (moment : ℕ) → Option ℕ
+limit_at C moment =
+    (let due = moment + idle_limit C in if nat_lt due (2 ^ 64) then Some due else None)
+
 pub record Accepts (old new : Core) (number : ℕ) (vs : List ℕ) (from : Addr)
     (group : List Note) : Type 0 where
   pub keeps : KeepsConfig old new
@@ -70,17 +79,33 @@ pub record Accepts (old new : Core) (number : ℕ) (vs : List ℕ) (from : Addr)
         from = from;
         conn = conn;
         edges = accepted_edges;
+        cut = false;
       } ∷ []
+  pub dues : new.live.dues ≡ old.live.dues ++ limit_at old.config old.moment ∷ []
   pub ring : new.live.ring ≡ old.live.ring ++ number ∷ []
   pub queue : new.queue.items ≡ old.queue.items
   pub asleep : new.queue.asleep ≡ old.queue.asleep
   pub store : new.store ≡ old.store
 
 -- The connection at a place goes on, and waits on for a reply or is ready; the call of one that
--- waited and doesn't any more leaves the queue, or sleeps no longer. Or it is over, and gone from the
--- ring too.
-pub record Stays (old new : Core) (at : ℕ) (before after : Live) : Type 0 where
+-- waited and doesn't any more leaves the queue, or sleeps no longer. Where it was activity its idle
+-- limit is counted from now on. Or it is over, and gone from the ring too.
+abbrev pub dues_by : (active : Bool) → Core → (at : ℕ) → List (Option ℕ)
+dues_by active old at =
+    if active then slice_set old.live.dues at (limit_at old.config old.moment)
+    else old.live.dues
+
+-- the same, in a core
+abbrev pub restarted : (at : ℕ) → Core → Core
+restarted at old = record old {
+  live = record old.live {
+    dues = slice_set old.live.dues at (limit_at old.config old.moment);
+  };
+}
+
+pub record Stays (old new : Core) (at : ℕ) (active : Bool) (before after : Live) : Type 0 where
   pub live : new.live.items ≡ slice_set old.live.items at after
+  pub dues : new.live.dues ≡ dues_by active old at
   pub ring : new.live.ring ≡ woken (asks_in after.conn) after.number old.live.ring
   pub waits : asks_in after.conn ≡ asks_in before.conn
       → (new.queue.items ≡ old.queue.items) × (new.queue.asleep ≡ old.queue.asleep)
@@ -90,6 +115,7 @@ pub record Stays (old new : Core) (at : ℕ) (before after : Live) : Type 0 wher
 
 pub record Goes (old new : Core) (at : ℕ) (before : Live) : Type 0 where
   pub live : new.live.items ≡ remove old.live.items at
+  pub dues : new.live.dues ≡ remove old.live.dues at
   pub ring : new.live.ring ≡ without before.number old.live.ring
   pub queue : new.queue.items ≡ old.queue.items
   pub asleep : new.queue.asleep ≡ old.queue.asleep
@@ -108,10 +134,11 @@ pub record ComesOf (old new : Core) (number : ℕ) (input : Input) (group : List
   pub after : Live
   pub may : MayCome input before
   pub same : KeepsPlace before after
+  pub cut : after.cut ≡ before.cut
   pub over : Bool
-  pub came : LiveComes input number before.conn after.conn group over
+  pub came : LiveComes input number before.cut before.conn after.conn group over
   pub edges : edges_in after ≡ edges_noted group (edges_met input (edges_in before))
-  pub goes_on : over ≡ false → Stays old new at before after
+  pub goes_on : over ≡ false → Stays old new at (is_activity input) before after
   pub ends : over ≡ true → Goes old new at before
 
 -- The front of the ring runs, and leaves the ring, or goes to its back where there is more to do.
@@ -137,6 +164,7 @@ pub record RunsFront (old new : Core) (number : ℕ) (rest : List ℕ) (group : 
   pub notes : group ≡ told ++ sleep_note turn number old.moment
   pub edges : ends turn ≡ false → edges_in after ≡ edges_noted told (edges_in before)
   pub runs : LiveRuns setup number before.edges before.conn after.conn told turn steps
+  pub cut : after.cut ≡ (before.cut || tells_idle_cut number told)
   pub whole : IsWhole turn steps (length told)
   pub bounded : steps ≤ 2000
   pub ring : new.live.ring ≡ ring_behind turn number rest
@@ -145,7 +173,9 @@ pub record RunsFront (old new : Core) (number : ℕ) (rest : List ℕ) (group : 
   pub asleep : length old.queue.items + length old.queue.asleep < old.config.connections
       → new.queue.asleep ≡ sleepers_behind turn number old.moment old.queue.asleep
   pub goes_on : ends turn ≡ false → new.live.items ≡ slice_set old.live.items at after
+  pub keeps_dues : ends turn ≡ false → new.live.dues ≡ old.live.dues
   pub over : ends turn ≡ true → new.live.items ≡ remove old.live.items at
+  pub over_dues : ends turn ≡ true → new.live.dues ≡ remove old.live.dues at
 
 -- nothing is ready
 pub record Idles (old new : Core) (group : List Note) (steps : ℕ) : Type 0 where
@@ -153,6 +183,7 @@ pub record Idles (old new : Core) (group : List Note) (steps : ℕ) : Type 0 whe
   pub last : new.last ≡ old.last
   pub moment : new.moment ≡ old.moment
   pub live : new.live.items ≡ old.live.items
+  pub dues : new.live.dues ≡ old.live.dues
   pub ring : new.live.ring ≡ []
   pub queue : new.queue.items ≡ old.queue.items
   pub asleep : new.queue.asleep ≡ old.queue.asleep
@@ -179,6 +210,7 @@ pub record TurnsAt (old new : Core) (a : Asked) (rest : List Asked) (group : Lis
   pub answers :
       LiveAnswers old.store new.store old.moment a before.conn after.conn group
   pub live : new.live.items ≡ slice_set old.live.items at after
+  pub dues : new.live.dues ≡ old.live.dues
   pub ring : new.live.ring ≡ with_ready old.live.ring a.conn
   pub queue : new.queue.items ≡ rest
   pub asleep : new.queue.asleep ≡ old.queue.asleep
@@ -189,6 +221,7 @@ pub record TurnsNone (old new : Core) (group : List Note) : Type 0 where
   pub last : new.last ≡ old.last
   pub moment : new.moment ≡ old.moment
   pub live : new.live.items ≡ old.live.items
+  pub dues : new.live.dues ≡ old.live.dues
   pub ring : new.live.ring ≡ old.live.ring
   pub queue : new.queue.items ≡ []
   pub asleep : new.queue.asleep ≡ old.queue.asleep
@@ -202,12 +235,56 @@ TurnsQueue old new (a ∷ rest) group =
 
 -- It is this moment: the calls whose time has come go to the back of the queue, which has room for
 -- them where the calls are no more than connections may be; all others sleep on, and what has run
--- out is gone from the store.
+-- out is gone from the store. The connections whose deadline has come have reached their idle limit;
+-- they have none any more, and go to the back of the ring but where they are in it or wait for a reply.
+abbrev pub has_come : (moment : ℕ) → Option ℕ → Bool
+has_come moment None = false
+has_come moment (Some due) = nat_le due moment
+
+abbrev pub due_behind : (moment : ℕ) → Option ℕ → Option ℕ
+due_behind moment due = if has_come moment due then None else due
+
+abbrev pub idled_by : (moment : ℕ) → List (Option ℕ) → List Live → List Live
+idled_by moment [] ls = ls
+idled_by moment (due ∷ dues) [] = []
+idled_by moment (due ∷ dues) (l ∷ ls) =
+    (if has_come moment due then idled l else l) ∷ idled_by moment dues ls
+
+-- one of them is taken out, if there is one
+pub record PassesAt (old new : Core) (at : ℕ) : Type 0 where
+  pub l : Live
+  pub there : slice_get old.live.items at ≡ Some l
+  pub due : ℕ
+  pub due_is : slice_get old.live.dues at ≡ Some (Some due)
+  pub come : due ≤ old.moment
+  pub new_is : new ≡ record old {
+    live = record old.live {
+      items = slice_set old.live.items at (idled l);
+      ring = woken (asks_in l.conn) l.number old.live.ring;
+      dues = slice_set old.live.dues at None;
+    };
+  }
+
+abbrev pub PassesIdle : Core → Core → Type 0
+PassesIdle old new =
+    ((new ≡ old) × NoneDue old.live.dues old.moment) ⊎ ((at : ℕ) × PassesAt old new at)
+
+pub record Readied (old : Core) (moment : ℕ) (numbers : List ℕ) : Type 0 where
+  pub each : (at : ℕ) (l : Live) → slice_get old.live.items at ≡ Some l
+      → filter (nat_eq l.number) numbers
+      ≡ (if has_come moment (get_or old.live.dues at None) && (not (asks_in l.conn)
+      && not (is_in old.live.ring l.number)) then l.number ∷ [] else [])
+  pub others : (c : ℕ) → place_of old.live.items c ≡ None → filter (nat_eq c) numbers ≡ []
+
 pub record TicksTo (old new : Core) (moment : ℕ) : Type 0 where
   pub keeps : KeepsConfig old new
   pub last : new.last ≡ old.last
   pub moment_is : new.moment ≡ moment
-  pub live : new.live ≡ old.live
+  pub live : new.live.items ≡ idled_by moment old.live.dues old.live.items
+  pub dues : new.live.dues ≡ map (due_behind moment) old.live.dues
+  pub numbers : List ℕ
+  pub ring : new.live.ring ≡ old.live.ring ++ numbers
+  pub readied : Readied old moment numbers
   pub queue : length old.queue.items + length old.queue.asleep ≤ old.config.connections
       → new.queue.items ≡ old.queue.items ++ woken_calls moment old.queue.asleep
   pub asleep : new.queue.asleep ≡ sleeping_on moment old.queue.asleep

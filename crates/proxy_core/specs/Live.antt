@@ -1,10 +1,12 @@
 -- What the place of a live connection holds, and what calls make of it.
 use Rattle.std.specs.Prelude.{◌≡◌, ◌⊎◌, ◌≤◌, ℕ, List, [], ◌∷◌, length, map, Bool, true, false}
-use Rattle.std.specs.Prelude.{Option, Some, None}
+use Rattle.std.specs.Prelude.{Option, Some, None, not, nat_eq, option_map, if◌then◌else◌}
+use Rattle.std.specs.List.{list_any}
 use Rattle.px_bytes.specs.declared.addr.Side.{Side}
 use Rattle.px_bytes.specs.declared.fault.Reply.{Reply}
 use Rattle.core_events.specs.declared.edges.Edges.{Edges}
-use Rattle.core_events.specs.declared.note.Cause.TheVariants.{Memory}
+use Rattle.core_events.specs.declared.note.Cause.TheVariants.{Cut, Memory}
+use Rattle.core_events.specs.declared.note.CutReason.TheVariants.{Idle}
 use Rattle.core_events.specs.declared.note.Note.{Note}
 use Rattle.core_events.specs.declared.note.Note.TheVariants.{Finish, History}
 use Rattle.core_events.specs.Edges.{edges_noted, is_connecting}
@@ -20,7 +22,7 @@ use Rattle.conn_trace.specs.State.{TraceState}
 use Rattle.conn.specs.Calls.{Replies, answered_in, connected_ends, ended_ends, heard_ends}
 use Rattle.conn.specs.Calls.{reset_ends}
 use Rattle.conn.specs.Calls.{reset_in, took_ends, took_more, unless_finished, wanted_in}
-use Rattle.conn.specs.Ends.{queued_in}
+use Rattle.conn.specs.Ends.{idle_ends, queued_in}
 use Rattle.conn.specs.Holds.{Around, Holds}
 use Rattle.conn.specs.Queues.{queue_in}
 use Rattle.conn.specs.Runs.{Runs}
@@ -70,10 +72,11 @@ pub record KeepsPlace (old new : Live) : Type 0 where
   pub number : new.number ≡ old.number
   pub vs : new.vs ≡ old.vs
 
--- and its ends stand where they stood
+-- and its ends stand where they stood, and whether it was cut for its idle limit is the same
 pub record SamePlace (old new : Live) : Type 0 where
   pub number : new.number ≡ old.number
   pub vs : new.vs ≡ old.vs
+  pub cut : new.cut ≡ old.cut
   pub edges : edges_in new ≡ edges_in old
 
 -- no more is taken than is pending, and an answer comes where a server was asked for
@@ -93,6 +96,37 @@ met_by (Resets side) finished a = reset_in side a
 met_by (Takes side n) finished a = took_more side n a
 met_by (Connects made) finished a = answered_in finished made a
 met_by other finished a = a
+
+-- bytes take it back that its idle limit is reached, unless it was cut for that
+abbrev pub takes_back : Input → (cut : Bool) → Bool
+takes_back (Bytes side bytes) cut = not cut
+takes_back other cut = false
+
+abbrev pub taken_back : Input → (cut : Bool) → Conn → Conn
+taken_back input cut conn =
+    if takes_back input cut then record conn { ends = idle_ends false conn.ends } else conn
+
+-- what comes of it is activity: its idle limit is counted from then on
+abbrev pub is_activity : Input → Bool
+is_activity (Bytes side bytes) = true
+is_activity (Takes side n) = true
+is_activity (Connects made) = made
+is_activity other = false
+
+-- its idle limit is reached
+abbrev pub idled_conn : Option Conn → Option Conn
+idled_conn conn = option_map (λ c. record c { ends = idle_ends true c.ends }) conn
+
+abbrev pub idled : Live → Live
+idled l = record l { conn = idled_conn l.conn }
+
+-- a note tells that it was cut for its idle limit
+abbrev pub is_idle_cut : ℕ → Note → Bool
+is_idle_cut number (Finish c (Cut Idle)) = nat_eq c number
+is_idle_cut number other = false
+
+abbrev pub tells_idle_cut : ℕ → List Note → Bool
+tells_idle_cut number group = list_any (is_idle_cut number) group
 
 -- what it adds to what the trace reads
 abbrev pub further_in : Input → Further
@@ -146,12 +180,13 @@ pub record ConnLacks (input : Input) (number : ℕ) (old new : Conn) (group : Li
   pub ends : new.ends ≡ old.ends
 
 -- one for which no memory was found hears nothing
-abbrev pub LiveComes :
-    Input → ℕ → Option Conn → Option Conn → List Note → (over : Bool) → Type 0
-LiveComes input number None None group over = (group ≡ []) × (over ≡ false)
-LiveComes input number (Some old) (Some new) group over =
-    ConnComes input number old new group over ⊎ ConnLacks input number old new group over
-LiveComes input number old new group over = ⊥
+abbrev pub LiveComes : Input → ℕ → (cut : Bool) → Option Conn → Option Conn → List Note
+    → (over : Bool) → Type 0
+LiveComes input number cut None None group over = (group ≡ []) × (over ≡ false)
+LiveComes input number cut (Some old) (Some new) group over =
+    (let mid = taken_back input cut old in
+    ConnComes input number mid new group over ⊎ ConnLacks input number mid new group over)
+LiveComes input number cut old new group over = ⊥
 
 -- A connection for which no memory was found ends with its Run, and what is queued on it is
 -- dropped. Another one gives the items of its trace from wherever that stands. What is told of its

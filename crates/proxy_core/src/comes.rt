@@ -5,6 +5,7 @@ ghost use Rattle.std.specs.Prelude.{length};
 ghost use Rattle.core_events.specs.declared.event_kind.EventKind.TheVariants.{Comes};
 ghost use Rattle.core_events.specs.declared.note.Note.{Note};
 ghost use Rattle.proxy_core.specs.Changes.{ComesOf};
+ghost use Rattle.proxy_core.specs.Live.{is_activity};
 ghost use Rattle.proxy_core.specs.Refusal.{refusal_of};
 
 use crate::core_state::Core;
@@ -12,7 +13,9 @@ use crate::ring::{find, wake};
 use core_events::{BadEvent, Input, Notes};
 
 // Whether it is counted as activity.
-fn is_activity(input: &Input) -> bool {
+fn is_activity(input: &Input) -> bool
+    ensures { result ≡ is_activity input.now }
+{
     matches!(
         input,
         Input::Bytes(..) | Input::Takes(..) | Input::Connects(true)

@@ -1,7 +1,9 @@
 // The place of a live connection.
 
 ghost use Rattle.std.specs.Prelude.{◌≡◌, ◌≤◌, ◌+◌, ◌-◌, ◌++◌, ℕ, List, Bool, true, false, Some};
-ghost use Rattle.std.specs.Prelude.{length};
+ghost use Rattle.std.specs.Prelude.{◌||◌, drop, length};
+ghost use Rattle.conn.specs.Calls.{Limits};
+ghost use Rattle.proxy_core.specs.Live.{idled, is_idle_cut, takes_back, taken_back, tells_idle_cut};
 ghost use Rattle.std.specs.Prelude.{OnOk, OnErr};
 ghost use Rattle.core_events.specs.declared.note.Note.{Note};
 ghost use Rattle.core_events.specs.Edges.{edges_noted};
@@ -159,8 +161,9 @@ impl Live {
         requires may { MayCome input.now self.old }
         requires spare { 3 ≤ notes.old.spare }
         ensures place { KeepsPlace self.old self.new }
+        ensures cut { self.new.cut ≡ self.old.cut }
         ensures comes { (group : List Note) × (notes.new.items ≡ notes.old.items ++ group)
-            × LiveComes input.now self.old.number self.old.conn self.new.conn group
+            × LiveComes input.now self.old.number self.old.cut self.old.conn self.new.conn group
             result
             × (edges_in self.new
             ≡ edges_noted group (edges_met input.now (edges_in self.old))) }
@@ -275,6 +278,7 @@ impl Live {
         ensures runs { (group : List Note) × (notes.new.items ≡ notes.old.items ++ group)
             × LiveRuns setup.now self.old.number self.old.edges self.old.conn self.new.conn group
             result (steps.new - steps.old)
+            × (self.new.cut ≡ (self.old.cut || tells_idle_cut self.old.number group))
             × (ends result ≡ false → edges_in self.new ≡ edges_noted group (edges_in self.old)) }
         ensures slice { let given = length notes.new.items - length notes.old.items in
             IsWhole result (steps.new - steps.old) given }
@@ -297,8 +301,10 @@ impl Live {
         }
     }
 
-    /// The idle limit is reached.
-    pub fn idle(&mut self) {
+    /// Its idle limit is reached.
+    pub fn idle(&mut self)
+        ensures { self.new ≡ idled self.old }
+    {
         if let Some(conn) = &mut self.conn {
             conn.limit(true);
         }
@@ -318,22 +324,37 @@ fn end(number: u32, edges: &mut Edges, notes: &mut Notes)
 }
 
 // Bytes take it back that the idle limit was reached, unless it was cut for that.
-fn take_back(conn: &mut Conn, input: &Input, cut: bool) {
-    if let Input::Bytes(..) = input {
-        if !cut {
-            conn.limit(false);
-        }
+fn take_back(conn: &mut Conn, input: &Input, cut: bool)
+    ensures exact { conn.new ≡ taken_back input.now cut conn.old }
+    ensures limits { takes_back input.now cut ≡ true → Limits false conn.old conn.new }
+{
+    if takes_back(input, cut) {
+        conn.limit(false);
+    }
+}
+
+fn takes_back(input: &Input, cut: bool) -> bool
+    ensures { result ≡ takes_back input.now cut }
+{
+    match input {
+        Input::Bytes(..) => !cut,
+        _ => false,
     }
 }
 
 // Whether notes from a place on tell that this connection was cut for the idle limit.
-fn tells_idle_cut(number: u32, notes: &Notes, from: usize) -> bool {
+fn tells_idle_cut(number: u32, notes: &Notes, from: usize) -> bool
+    requires { from ≤ length notes.now.items }
+    ensures { result ≡ tells_idle_cut number (drop from notes.now.items) }
+{
     notes.as_slice()[from..]
         .iter()
         .any(|note| is_idle_cut(number, note))
 }
 
-fn is_idle_cut(number: u32, note: &Note) -> bool {
+fn is_idle_cut(number: u32, note: &Note) -> bool
+    ensures { result ≡ is_idle_cut number note.now }
+{
     match note {
         Note::Finish {
             conn,

@@ -40,6 +40,7 @@ pub fn put_behind(
     ensures numbers { live.new.numbers ≡ live.old.numbers }
     ensures ring { live.new.ring
         ≡ ring_behind turn (slice_index live.old.numbers at) live.old.ring }
+    ensures dues { live.new.dues ≡ live.old.dues }
     ensures room { live.new.room ≡ live.old.room }
     ensures queue { length queue.old.items < queue.old.room
         → queue.new.items ≡ queue_behind turn number queue.old.items }
@@ -67,6 +68,7 @@ pub fn wake(live: &mut Table<Live>, at: usize, waits: bool)
     ensures items { live.new.items ≡ live.old.items }
     ensures numbers { live.new.numbers ≡ live.old.numbers }
     ensures ring { live.new.ring ≡ woken waits (slice_index live.old.numbers at) live.old.ring }
+    ensures dues { live.new.dues ≡ live.old.dues }
     ensures room { live.new.room ≡ live.old.room }
 {
     if !waits {

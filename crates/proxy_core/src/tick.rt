@@ -2,7 +2,7 @@
 
 ghost use Rattle.std.specs.Prelude.{◌≡◌, ◌<◌, Some, None, OnOk, OnErr, IfErr, length};
 ghost use Rattle.record_model.specs.Clock.{idle_limit};
-ghost use Rattle.proxy_core.specs.Changes.{TicksTo};
+ghost use Rattle.proxy_core.specs.Changes.{PassesIdle, TicksTo, restarted};
 ghost use Rattle.core_events.specs.declared.event_kind.EventKind.TheVariants.{Ticks};
 ghost use Rattle.proxy_core.specs.Refusal.{refusal_of};
 
@@ -41,7 +41,9 @@ impl Core {
 
     // One connection whose idle limit is reached, where there is one, is ready, unless it waits for a
     // reply.
-    fn pass_idle(&mut self) {
+    fn pass_idle(&mut self)
+        ensures { PassesIdle self.old self.new }
+    {
         let Some(at) = self.live.overdue(self.moment) else {
             return;
         };
@@ -53,6 +55,7 @@ impl Core {
     /// The idle limit of a connection is counted from now on.
     pub(crate) fn restart(&mut self, at: usize)
         requires { at < length self.old.live.items }
+        ensures { self.new ≡ restarted at self.old }
     {
         let due = self.moment.checked_add(idle_limit(&self.config));
         self.live.set_due(at, due);
