@@ -8,8 +8,9 @@ use Rattle.core_events.specs.declared.edges.Edges.{Edges}
 use Rattle.conn_trace.specs.Gates.{no_bytes, sent_from, taken_of}
 use Rattle.conn_trace.specs.Heard.{Heard, taken}
 use Rattle.conn_trace.specs.Item.{Item, client_output, server_output}
-use Rattle.record_model.specs.Clock.{Clock, clock, idles_at, never}
+use Rattle.record_model.specs.Clock.{never}
 use Rattle.record_model.specs.Past.{Past, heard, shared}
+use Rattle.record_model.specs.Quiet.{Quiet, idles_at, quiet}
 use Rattle.proxy_core.specs.Ready.{is_in}
 use Rattle.proxy_core.specs.Refusal.{wants_at}
 use Rattle.proxy_core.specs.Scheduler.{State, seen, pending}
@@ -48,15 +49,16 @@ least due (x ∷ xs) = lesser (due x) (least due xs)
 
 -- when the idle limit of a connection is reached, where nothing comes before and that is above the
 -- present moment
-abbrev pub idle_due : Config → Clock → Option ℕ
-idle_due C k =
-    if nat_lt k.moment (idles_at C k) && nat_lt (idles_at C k) (2 ^ 64) then Some (idles_at C k)
+abbrev pub idle_due : Config → (moment : ℕ) → Quiet → Option ℕ
+idle_due C moment k =
+    if nat_lt moment (idles_at C k) && nat_lt (idles_at C k) (2 ^ 64) then Some (idles_at C k)
     else None
 
 -- the least moment at which a call of a live connection wakes, or it reaches its idle limit
 abbrev pub next_due_of : Config → Past → State → Option ℕ
 next_due_of C past s =
-    least (λ c. lesser (due_of (s.asleep c)) (idle_due C (clock c past))) (shared past).live
+    least (λ c. lesser (due_of (s.asleep c)) (idle_due C (shared past).moment (quiet c past)))
+    (shared past).live
 
 abbrev pub live_of : Past → ℕ
 live_of past = length (shared past).live

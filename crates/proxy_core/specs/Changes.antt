@@ -30,7 +30,7 @@ use Rattle.proxy_core.specs.Calls.{without_calls, without_sleepers, woken, woken
 use Rattle.proxy_core.specs.Live.{KeepsPlace, LiveAnswers, MayCome, LiveComes, LiveRuns, SamePlace}
 use Rattle.proxy_core.specs.Live.{asks_in, edges_in, idled, is_activity, tells_idle_cut}
 use Rattle.number_table.specs.Table.{NoneDue}
-use Rattle.record_model.specs.Clock.{idle_limit}
+use Rattle.record_model.specs.Quiet.{idle_limit}
 use Rattle.proxy_core.specs.Ready.{is_in, place_of, ring_behind, with_ready, without}
 use Rattle.record_model.specs.Setup.{virtual_place}
 use Rattle.proxy_core.specs.Serving.{IsSetup}

@@ -19,8 +19,8 @@ use Rattle.conn_trace.specs.Item.{reasons_in, server_output}
 use Rattle.conn_trace.specs.Laws.{cut_is_taken}
 use Rattle.conn_trace.specs.Tellings.{notes_about, failure_told}
 use Rattle.conn_trace.specs.Trace.{next_item, trace, GivesNoMore}
-use Rattle.record_model.specs.Clock.{Clock, EntriesAwake, SleepsTold, clock, is_due, is_idle}
-use Rattle.record_model.specs.Clock.{reached}
+use Rattle.record_model.specs.Clock.{EntriesAwake, SleepsTold, clock, is_due}
+use Rattle.record_model.specs.Quiet.{Quiet, is_idle, reached}
 use Rattle.record_model.specs.History.{IsHistory, called_in, entries_in, store_of}
 use Rattle.proxy_core.specs.Moves.{Leads}
 use Rattle.record_model.specs.Past.{Past, heard, shared}
@@ -71,7 +71,7 @@ GaveDeliverable C asleep h place =
     (next_item (setup_of C h) (stand_of C h place))
 
 -- no cut that is allowed goes on from there; once it has finished none does
-abbrev pub NoCutIsDue : Config → Heard → Clock → List Item → Type 0
+abbrev pub NoCutIsDue : Config → Heard → Quiet → List Item → Type 0
 NoCutIsDue C h k place =
     (reason : CutReason) → allows C h k (stand_of C h place) reason ≡ true
     → cut_is_taken (setup_of C h) (record { reason = reason; took = taken h })
@@ -86,7 +86,7 @@ pub record IsSettled (s : State) : Type 0 where
 -- and where no call of it sleeps its idle limit isn't reached; where besides nothing is pending, since both sides took all or were reset, its trace is no
 -- longer, and if it has finished and no call of it sleeps it isn't live any more. An ended one gave
 -- its whole trace, unless it found no memory; where nothing was dropped it is whole.
-pub record SettledIsComplete (C : Config) (h : Heard) (k : Clock) (s : State) (live : Bool)
+pub record SettledIsComplete (C : Config) (h : Heard) (k : Quiet) (s : State) (live : Bool)
     (asleep : Option Asleep) (place : List Item) : Type 0 where
   pub settled_found_memory : IsSettled s → live ≡ true → h.failed ≡ false
   pub settled_gave_deliverable : IsSettled s → live ≡ true
@@ -115,7 +115,7 @@ pub record ClosesRightly (C : Config) (c : ℕ) (z : Seen) : Type 0 where
   pub closes_given_up : z.heard.finished ≡ false
       → closed_servers z.heard.notes ≤ given_up z.place
   pub dropped : z.live ≡ false → z.heard.failed ≡ false → z.heard.client.reset ≡ false
-      → any_reset z.heard.connects ≡ false → is_idle C z.clock ≡ false
+      → any_reset z.heard.connects ≡ false → is_idle C z.quiet ≡ false
       → untaken_all z.heard z.place ≡ 0
 
 -- The notes of a connection that show an item are those of the items that it passed. It finishes
@@ -123,7 +123,7 @@ pub record ClosesRightly (C : Config) (c : ℕ) (z : Seen) : Type 0 where
 -- finishes once at most, never for want of memory, and has finished where it ended; a second Finish
 -- is for want of memory, and there is no third. A cut among them is
 -- allowed by what was heard in this past, and so, in the one that its Finish ends, by then.
-pub record FinishCauses (C : Config) (c : ℕ) (h : Heard) (k : Clock) (live : Bool)
+pub record FinishCauses (C : Config) (c : ℕ) (h : Heard) (k : Quiet) (live : Bool)
     (place : List Item) : Type 0 where
   pub shown : filter shows h.notes ≡ notes_of c place
   pub causes : causes_told h.notes ≡ map cause_of (reasons_in place) ++ causes_behind h.failed
@@ -168,8 +168,8 @@ SleepersNotDue past c asleep =
 pub record ConnectionPromise (C : Config) (past : Past) (s : State) (c : ℕ)
     (z : Seen) : Type 0 where
   pub sent_is_prefix : SentIsPrefix C z.heard z.place
-  pub settled_is_complete : SettledIsComplete C z.heard z.clock s z.live (s.asleep c) z.place
-  pub finish_causes : FinishCauses C c z.heard z.clock z.live z.place
+  pub settled_is_complete : SettledIsComplete C z.heard z.quiet s z.live (s.asleep c) z.place
+  pub finish_causes : FinishCauses C c z.heard z.quiet z.live z.place
   pub closes_rightly : ClosesRightly C c z
   pub entries_are_calls : EntriesAreCalls z.heard z.asked z.place
   pub sleepers_not_due : SleepersNotDue past c (s.asleep c)

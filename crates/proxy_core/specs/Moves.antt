@@ -27,8 +27,9 @@ use Rattle.shared_store.specs.Calls.{reply}
 use Rattle.shared_store.specs.Store.{StoreState}
 use Rattle.proxy_core.specs.Calls.{calls_of, falls_asleep, is_any, queue_behind, sleep_note, sleeps}
 use Rattle.proxy_core.specs.Calls.{without_calls, woken}
-use Rattle.record_model.specs.Clock.{clock, is_due, reached, tick_clock}
+use Rattle.record_model.specs.Clock.{is_due}
 use Rattle.record_model.specs.History.{store_of}
+use Rattle.record_model.specs.Quiet.{event_quiet, quiet, reached}
 use Rattle.proxy_core.specs.Live.{entry_note, takes_memory}
 use Rattle.core_events.specs.Kinds.{kind_of}
 use Rattle.record_model.specs.Past.{Happened, Past, heard, shared}
@@ -170,7 +171,7 @@ MovesFront C h o moment c rest group old new =
 abbrev pub MovesRing : Config → Past → List ℕ → List Note → State → State → Type 0
 MovesRing C past [] group old new = Rests group old new
 MovesRing C past (c ∷ rest) group old new =
-    MovesFront C (heard c past) (outside_of C (heard c past) (clock c past)) (shared past).moment c
+    MovesFront C (heard c past) (outside_of C (heard c past) (quiet c past)) (shared past).moment c
     rest group old new
 
 -- the notes of an answered call: its entry; where the reply finds no memory, the Finish behind it;
@@ -209,7 +210,8 @@ readied_by live idle asks ready c = []
 
 abbrev pub readied : Config → Past → (moment : ℕ) → State → ℕ → List ℕ
 readied C past moment old c =
-    readied_by (is_in (shared past).live c) (reached C (tick_clock moment (clock c past)))
+    readied_by (is_in (shared past).live c)
+    (reached C (event_quiet c (Ticks moment) (shared past).moment (quiet c past)))
     (is_any (open_calls c old)) (entries c old.ring) c
 
 -- The calls whose time has come go to the back of the queue, in any order; all others sleep on.

@@ -13,11 +13,11 @@ use Rattle.conn.specs.declared.stage.Stage.TheVariants.{OutOfMemory}
 use Rattle.proxy_core.specs.Bodies.{all_places}
 use Rattle.shared_store.specs.Store.{StoreState}
 use Rattle.proxy_core.specs.Calls.{is_any, sleepers_of}
-use Rattle.record_model.specs.Clock.{is_idle}
 use Rattle.proxy_core.specs.Asked.{idle_due}
 use Rattle.record_model.specs.History.{store_of}
 use Rattle.proxy_core.specs.Live.{asks_in, edges_in}
 use Rattle.record_model.specs.Past.{Past, Shared, shared}
+use Rattle.record_model.specs.Quiet.{is_idle}
 use Rattle.proxy_core.specs.Ready.{numbers}
 use Rattle.proxy_core.specs.Refusals.{live_at}
 use Rattle.proxy_core.specs.Scheduler.{State, Seen, last_took, seen, servers_left}
@@ -34,7 +34,7 @@ use Rattle.proxy_core.specs.declared.live.Live.{Live}
 abbrev pub around : Config → Seen → Around
 around C z = record {
   took = taken z.heard;
-  idle = is_idle C z.clock;
+  idle = is_idle C z.quiet;
   counted = z.heard.client.took;
   counted_server = last_took z.heard.connects;
 }
@@ -84,7 +84,7 @@ pub record AgreesLive (C : Config) (z : Seen) (l : Live) : Type 0 where
   pub serves : Serves C (statics_of C) l.vs (setup_of C z.heard)
   pub edges : z.heard.edges ≡ edges_in l
   pub asking : asks_in l.conn ≡ is_any z.asked
-  pub cut : l.cut ≡ is_some z.clock.cut
+  pub cut : l.cut ≡ is_some z.quiet.cut
 
 abbrev pub AgreesAt : Config → Seen → Option Live → Type 0
 AgreesAt C z None = z.live ≡ false
@@ -103,8 +103,9 @@ abbrev pub AgreesAsleep : (ℕ → Option Asleep) → List Asleep → Type 0
 AgreesAsleep asleep held = (c : ℕ) → sleepers_of c held ≡ listed (asleep c)
 
 -- of the deadlines of live connections each is when its idle limit is reached
-abbrev pub AgreesDues : Config → (ℕ → Seen) → List Live → List (Option ℕ) → Type 0
-AgreesDues C each_seen live dues = dues ≡ map (λ l. idle_due C (each_seen l.number).clock) live
+abbrev pub AgreesDues : Config → (moment : ℕ) → (ℕ → Seen) → List Live → List (Option ℕ) → Type 0
+AgreesDues C moment each_seen live dues =
+    dues ≡ map (λ l. idle_due C moment (each_seen l.number).quiet) live
 
 -- the core's fields are those of the past and the state, connection by connection
 pub record AgreesBy (C : Config) (all : Shared) (store : StoreState) (each_seen : ℕ → Seen)
@@ -117,7 +118,7 @@ pub record AgreesBy (C : Config) (all : Shared) (store : StoreState) (each_seen 
   pub ring : core.live.ring ≡ s.ring
   pub queue : core.queue.items ≡ s.queue
   pub asleep : AgreesAsleep s.asleep core.queue.asleep
-  pub dues : AgreesDues C each_seen core.live.items core.live.dues
+  pub dues : AgreesDues C core.moment each_seen core.live.items core.live.dues
   pub each : (c : ℕ) → AgreesAt C (each_seen c) (live_at core.live.items c)
 
 abbrev pub Agrees : Config → Past → State → Core → Type 0

@@ -12,8 +12,8 @@ use Rattle.conn_trace.specs.Heard.{SideHeard, Heard, has_made, taken, hears}
 use Rattle.conn_trace.specs.Item.{Item, client_output, server_output}
 use Rattle.conn.specs.Holds.{Outside}
 use Rattle.proxy_core.specs.Calls.{calls_of}
-use Rattle.record_model.specs.Clock.{Clock, clock, clock_after, is_idle}
 use Rattle.record_model.specs.Past.{Past, heard, shared, shared_after}
+use Rattle.record_model.specs.Quiet.{Quiet, is_idle, quiet, quiet_after}
 use Rattle.run_config.specs.declared.config.Config.{Config}
 use Rattle.proxy_core.specs.Ready.{is_in}
 use Rattle.proxy_core.specs.declared.call.Asked.{Asked}
@@ -58,21 +58,21 @@ open_calls c s = calls_of c s.queue ++ called_by (s.asleep c)
 abbrev pub entries : ℕ → List ℕ → List ℕ
 entries c ring = filter (nat_eq c) ring
 
--- all that concerns one connection: what was heard, its time, whether it is live, its entries in the ready
+-- all that concerns one connection: what was heard, how long it is quiet, whether it is live, its entries in the ready
 -- queue, its open calls, its place, and its spent slices
 pub record Seen : Type 0 where
   pub heard : Heard
-  pub clock : Clock
+  pub quiet : Quiet
   pub live : Bool
   pub ready : List ℕ
   pub asked : List (List (List ℕ))
   pub place : List Item
   pub spent : ℕ
 
-abbrev pub see : Heard → Clock → List ℕ → State → ℕ → Seen
+abbrev pub see : Heard → Quiet → List ℕ → State → ℕ → Seen
 see h k live s c = record {
   heard = h;
-  clock = k;
+  quiet = k;
   live = is_in live c;
   ready = entries c s.ring;
   asked = open_calls c s;
@@ -81,16 +81,17 @@ see h k live s c = record {
 }
 
 abbrev pub seen : Past → State → ℕ → Seen
-seen past s c = see (heard c past) (clock c past) (shared past).live s c
+seen past s c = see (heard c past) (quiet c past) (shared past).live s c
 
 -- with one event more, of which its kind and its notes are enough
 abbrev pub seen_after : Past → EventKind → List Note → State → ℕ → Seen
 seen_after past v group s c =
-    see (hears c (heard c past) v group) (clock_after c v group (clock c past))
+    see (hears c (heard c past) v group)
+    (quiet_after c v group (shared past).moment (quiet c past))
     (shared_after v group (shared past)).live s c
 
 -- what was told of it from outside, as far as a Run rests on it
-abbrev pub outside_of : Config → Heard → Clock → Outside
+abbrev pub outside_of : Config → Heard → Quiet → Outside
 outside_of C h k = record { took = taken h; idle = is_idle C k }
 
 -- the bytes that were sent to a side, by these items, and not taken; a reset leaves none

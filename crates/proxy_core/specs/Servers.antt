@@ -23,7 +23,7 @@ use Rattle.core_events.specs.declared.note.Note.TheVariants.{CloseServer}
 use Rattle.px_bytes.specs.declared.addr.Side.TheVariants.{Server}
 use Rattle.core_events.specs.Edges.{is_connecting}
 use Rattle.core_events.specs.Kinds.{kind_of}
-use Rattle.record_model.specs.Past.{Past}use Rattle.record_model.specs.Clock.{Clock, idle_cut_is_due, is_idle}
+use Rattle.record_model.specs.Past.{Past}use Rattle.record_model.specs.Quiet.{Quiet, idle_cut_is_due, is_idle}
 use Rattle.run_config.specs.declared.config.Config.{Config}
 
 
@@ -67,16 +67,16 @@ any_reset [] = false
 any_reset (None ∷ more) = any_reset more
 any_reset (Some s ∷ more) = if s.reset then true else any_reset more
 
--- what was heard and its time allow a cut for this reason: of one that was cut for its idle limit that
+-- what was heard and how long it is quiet allow a cut for this reason: of one that was cut for its idle limit that
 -- was reached then
-abbrev pub licenses : Config → Heard → Clock → CutReason → Bool
+abbrev pub licenses : Config → Heard → Quiet → CutReason → Bool
 licenses C h k ClientReset = h.client.reset
 licenses C h k ServerReset = last_reset h.connects
 licenses C h k Idle = idle_cut_is_due C k
 
 -- what allows a cut where the trace stands: a server's reset while its connection is up, and that its
 -- idle limit is reached
-abbrev pub allows : Config → Heard → Clock → TraceState → CutReason → Bool
+abbrev pub allows : Config → Heard → Quiet → TraceState → CutReason → Bool
 allows C h k at ClientReset = h.client.reset
 allows C h k at ServerReset = last_reset h.connects && is_up (link_of at.server)
 allows C h k at Idle = is_idle C k

@@ -20,10 +20,10 @@ use Rattle.conn_trace.specs.Trace.{next_item, Unfolds, GivesNoMore}
 use Rattle.conn.specs.Holds.{Outside}
 use Rattle.conn.specs.RunsItems.{is_cut, is_ended}
 use Rattle.conn.specs.Settling.{given_up_at, is_drained, is_there, resting}
-use Rattle.record_model.specs.Clock.{Clock, is_idle}
 use Rattle.record_model.specs.History.{called_in}
 use Rattle.proxy_core.specs.Moves.{Leads}
 use Rattle.record_model.specs.Past.{Past, heard, shared}
+use Rattle.record_model.specs.Quiet.{Quiet, is_idle}
 use Rattle.proxy_core.specs.Scheduler.{State, Seen, outside_of, seen, untaken_all, untaken_of}
 use Rattle.proxy_core.specs.Shown.{shows, closes_for_good, ends_it, causes_told, causes_behind}
 use Rattle.proxy_core.specs.Servers.{LateServer, Linked, closed_servers, draining, given_up, licenses, took_of}
@@ -31,10 +31,10 @@ use Rattle.record_model.specs.Setup.{setup_of, stand_of}
 use Rattle.run_config.specs.declared.config.Config.{Config}
 
 -- no connection of this number was accepted
-abbrev pub unseen : Clock → Seen
+abbrev pub unseen : Quiet → Seen
 unseen k = record {
   heard = nothing_heard;
-  clock = k;
+  quiet = k;
   live = false;
   ready = [];
   asked = [];
@@ -62,9 +62,9 @@ pub record EndsTold (C : Config) (c : ℕ) (z : Seen) : Type 0 where
   pub over : z.live ≡ false → EndsClosed c (untaken_all z.heard z.place) z.heard
   pub closed_has_finished : list_any closes_for_good z.heard.notes ≡ true
       → z.heard.finished ≡ true
-  pub client_took_all : z.heard.failed ≡ false → is_idle C z.clock ≡ false
+  pub client_took_all : z.heard.failed ≡ false → is_idle C z.quiet ≡ false
       → is_closed z.heard.edges.client.state ≡ true → untaken_of z.heard z.place Client ≡ 0
-  pub server_took_all : z.heard.failed ≡ false → is_idle C z.clock ≡ false
+  pub server_took_all : z.heard.failed ≡ false → is_idle C z.quiet ≡ false
       → is_closed z.heard.edges.server.state ≡ true → untaken_of z.heard z.place Server ≡ 0
 
 -- what its client and each server connection took is within what was sent to them
@@ -130,9 +130,9 @@ pub record ServedAt (C : Config) (g : Setup) (c : ℕ) (z : Seen) (at : TraceSta
   pub drains : z.heard.finished ≡ false
       → closed_servers z.heard.notes + draining (taken z.heard) at ≡ given_up z.place
   pub licensed : (cut : Cut) → z.heard.cut ≡ Some cut
-      → licenses C z.heard z.clock cut.reason ≡ true
+      → licenses C z.heard z.quiet cut.reason ≡ true
   pub told : CallsTold z.heard.failed z.asked z.place z.heard.notes
-  pub spot : Spot z.heard.failed z.live z.ready z.asked g (outside_of C z.heard z.clock) at
+  pub spot : Spot z.heard.failed z.live z.ready z.asked g (outside_of C z.heard z.quiet) at
       z.heard.edges
 
 abbrev pub Served : Config → ℕ → Seen → Type 0
@@ -140,7 +140,7 @@ Served C c z = ServedAt C (setup_of C z.heard) c z (stand_of C z.heard z.place)
 
 -- all that one connection's number tells
 abbrev pub SoundAt : Config → ℕ → Seen → Type 0
-SoundAt C c z = MatchBool (is_some z.heard.accepted) (Served C c z) (z ≡ unseen z.clock)
+SoundAt C c z = MatchBool (is_some z.heard.accepted) (Served C c z) (z ≡ unseen z.quiet)
 
 pub record Sound (C : Config) (past : Past) (s : State) : Type 0 where
   pub leads : Leads C past s

@@ -1,7 +1,7 @@
 // The present moment, and the calls whose time has come.
 
 ghost use Rattle.std.specs.Prelude.{◌≡◌, ◌<◌, Some, None, OnOk, OnErr, IfErr, length};
-ghost use Rattle.record_model.specs.Clock.{idle_limit};
+ghost use Rattle.record_model.specs.Quiet.{idle_limit};
 ghost use Rattle.proxy_core.specs.Changes.{PassesIdle, TicksTo, restarted};
 ghost use Rattle.core_events.specs.declared.event_kind.EventKind.TheVariants.{Ticks};
 ghost use Rattle.proxy_core.specs.Refusal.{refusal_of};

@@ -1,14 +1,10 @@
 -- The time of one connection, a function of the past apart from what was heard of it: its trace
 -- rests on no moment.
-use Rattle.std.specs.Prelude.{◌≡◌, ℕ, ◌+◌, ◌-◌, ◌*◌, ◌^◌, ◌≤◌, ◌<◌, max, min, List, [], ◌∷◌, ◌++◌}
-use Rattle.std.specs.Prelude.{Bool, true, false, ◌&&◌, ◌||◌, nat_eq, nat_le, nat_lt, if◌then◌else◌}
-use Rattle.std.specs.Prelude.{Option, Some, None, is_some}
+use Rattle.std.specs.Prelude.{◌≡◌, ℕ, ◌+◌, ◌-◌, ◌^◌, ◌≤◌, ◌<◌, min, List, [], ◌∷◌, ◌++◌}
+use Rattle.std.specs.Prelude.{Bool, ◌&&◌, nat_eq, nat_le, nat_lt, if◌then◌else◌}
+use Rattle.std.specs.Prelude.{Option, Some, None}
 use Rattle.core_events.specs.declared.event_kind.EventKind.{EventKind}
-use Rattle.core_events.specs.declared.event_kind.EventKind.TheVariants.{Accepts, Comes, Ticks, Runs}
-use Rattle.core_events.specs.declared.input.Input.{Input}
-use Rattle.core_events.specs.declared.input.Input.TheVariants.{Bytes, Connects, Takes}
-use Rattle.core_events.specs.declared.note.Cause.TheVariants.{Cut}
-use Rattle.core_events.specs.declared.note.CutReason.TheVariants.{Idle}
+use Rattle.core_events.specs.declared.event_kind.EventKind.TheVariants.{Accepts, Ticks, Runs}
 use Rattle.core_events.specs.declared.note.Note.{Note}
 use Rattle.core_events.specs.declared.note.Note.TheVariants as note
 use Rattle.core_events.specs.Kinds.{kind_of}
@@ -20,52 +16,23 @@ use Rattle.record_model.specs.Past.{Happened, Past, heard, shared}
 use Rattle.record_model.specs.Setup.{begins_at, setup_of}
 use Rattle.run_config.specs.declared.config.Config.{Config}
 
--- The moment of the last Tick, 0 at the start; when it was accepted, or last gave bytes, was connected
--- or took bytes; the longest time behind that at which a Tick lay, since its last bytes; until when its
--- call sleeps or slept, where it has one that wasn't answered yet and that did; and the longest time
--- when it was cut for its idle limit.
+-- the moment of the last Tick, 0 at the start; and until when its call sleeps or slept, where it has
+-- one that wasn't answered yet and that did
 pub record Clock : Type 0 where
   pub moment : ℕ
-  pub active : ℕ
-  pub longest : ℕ
   pub sleeps : Option ℕ
-  pub cut : Option ℕ
 
 abbrev pub first_clock : Clock
-first_clock = record { moment = 0; active = 0; longest = 0; sleeps = None; cut = None }
+first_clock = record { moment = 0; sleeps = None }
 
--- what comes of it: bytes, that its server was connected, and bytes that were taken are activity, and
--- bytes alone take back how long there was none; an end, a reset or a refused connect is none
-abbrev pub came_clock : Input → Clock → Clock
-came_clock (Bytes side bytes) k = record k { active = k.moment; longest = 0 }
-came_clock (Connects true) k = record k { active = k.moment }
-came_clock (Takes side n) k = record k { active = k.moment }
-came_clock other k = k
-
--- one that is accepted begins: nothing of it sleeps
-abbrev pub accepted_clock : Clock → Clock
-accepted_clock k = record {
-  moment = k.moment;
-  active = k.moment;
-  longest = 0;
-  sleeps = None;
-  cut = None;
-}
-
-abbrev pub tick_clock : (moment : ℕ) → Clock → Clock
-tick_clock moment k =
-    record k { moment = moment; longest = max k.longest (moment - k.active) }
-
+-- an event sets the moment, and nothing sleeps of one that is accepted
 abbrev pub event_clock : ℕ → EventKind → Clock → Clock
-event_clock c (Accepts d vs from) k = if nat_eq d c then accepted_clock k else k
-event_clock c (Comes d input) k = if nat_eq d c then came_clock input k else k
-event_clock c (Ticks moment) k = tick_clock moment k
+event_clock c (Accepts d vs from) k = if nat_eq d c then record k { sleeps = None } else k
+event_clock c (Ticks moment) k = record k { moment = moment }
 event_clock c other k = k
 
--- its call falls asleep, or is answered; it is cut for its idle limit
+-- its call falls asleep, or is answered
 abbrev pub note_clock : ℕ → Note → Clock → Clock
-note_clock c (note.Finish d (Cut Idle)) k =
-    if nat_eq d c then record k { cut = Some k.longest } else k
 note_clock c (note.Sleep d until) k = if nat_eq d c then record k { sleeps = Some until } else k
 note_clock c (note.History d moment call r) k =
     if nat_eq d c then record k { sleeps = None } else k
@@ -82,32 +49,6 @@ clock_after c v group k = notes_clock c group (event_clock c v k)
 abbrev pub clock : ℕ → Past → Clock
 clock c [] = first_clock
 clock c (x ∷ past) = clock_after c (kind_of x.event) x.group (clock c past)
-
--- ---- the idle limit
-
--- in milliseconds, one at least
-abbrev pub idle_limit : Config → ℕ
-idle_limit C = max 1 (1000 * C.idle)
-
--- the limit was reached at a Tick, with no bytes since
-abbrev pub reached : Config → Clock → Bool
-reached C k = nat_le (idle_limit C) k.longest
-
--- it is reached, or it was cut for it
-abbrev pub is_idle : Config → Clock → Bool
-is_idle C k = reached C k || is_some k.cut
-
--- when it would be reached, where nothing comes
-abbrev pub idles_at : Config → Clock → ℕ
-idles_at C k = k.active + idle_limit C
-
--- it was cut for its limit, which was reached then
-abbrev pub cut_behind : (limit : ℕ) → (cut : Option ℕ) → Bool
-cut_behind limit None = false
-cut_behind limit (Some time) = nat_le limit time
-
-abbrev pub idle_cut_is_due : Config → Clock → Bool
-idle_cut_is_due C k = cut_behind (idle_limit C) k.cut
 
 -- ---- calls that sleep
 

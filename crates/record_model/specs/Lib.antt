@@ -1,4 +1,5 @@
 pub mod Past
+pub mod Quiet
 pub mod History
 pub mod Order
 pub mod Bodies
