@@ -1,4 +1,5 @@
 -- The clock of a connection along a past: its moment, and which notes move it.
+use Rattle.conn.specs.Holds.{Outside}
 use Rattle.std.proofs.Common.{◌≡◌, refl, ap, ◌∙◌, ℕ, List, [], ◌∷◌, ◌++◌, Bool, true, false, true≢false, ◌||◌, ◌&&◌, not, nat_eq, Some, None, if◌then◌else◌}
 use Rattle.std.specs.List.{list_any}
 use Rattle.core_events.specs.declared.edges.Edges.{Edges}
@@ -16,7 +17,7 @@ use Rattle.conn_trace.specs.State.{TraceState}
 use Rattle.conn_trace.specs.Trace.{next_item}
 use Rattle.conn_trace.specs.Queries.{half_close_due}
 use Rattle.conn_trace.specs.Tellings.{conn_of}
-use Rattle.conn.specs.RunsItems.{is_resting, told_behind}
+use Rattle.conn.specs.RunsItems.{is_resting, told_behind, is_dropped, told_at_rest}
 use Rattle.conn.specs.Settling.{client_notes, close_notes, closing, given_up_at, half_close, is_over, is_there, note_if, resting, server_notes, settling, settling_at, took_all}
 use Rattle.conn.specs.declared.turn.ConnTurn.{ConnTurn}
 use Rattle.record_model.specs.Clock.{Clock, clock, event_clock, note_clock, notes_clock}
@@ -122,12 +123,16 @@ timeless_resting g took at c e d =
     ∙ none_on is_timed (half_close took at c e Server) last (any_if is_timed (half_close_due at took Server && not (edge_of Server e).half) (note.HalfClose c Server) refl)
     ∙ timeless_settling_at g took at c e d
 
-pub timeless_told : (t : ConnTurn) (g : Setup) (took : TakenCounts) (at : TraceState) (c : ℕ) (e : Edges) (d : ℕ) → list_any is_timed (told_behind t g took at c e d) ≡ false
-timeless_told t g took at c e d = by_rest (is_resting t)
-  where
-    by_rest : (b : Bool) → list_any is_timed (if b then resting g took at c e d else []) ≡ false
-    by_rest true = timeless_resting g took at c e d
-    by_rest false = refl
-
 pub timeless_closing : (c : ℕ) (e : Edges) (d : ℕ) → list_any is_timed (closing c e d) ≡ false
 timeless_closing c e d = none_on is_timed (close_notes c true true e) (note.Ended c d ∷ []) (timeless_close c true true e)
+
+pub timeless_told : (t : ConnTurn) (g : Setup) (o : Outside) (at : TraceState) (c : ℕ) (e : Edges) (d : ℕ) → list_any is_timed (told_behind t g o at c e d) ≡ false
+timeless_told t g o at c e d = by_rest (is_resting t)
+  where
+    by_drop : (b : Bool) → list_any is_timed (if b then closing c e d else resting g o.took at c e d) ≡ false
+    by_drop true = timeless_closing c e d
+    by_drop false = timeless_resting g o.took at c e d
+
+    by_rest : (b : Bool) → list_any is_timed (if b then told_at_rest g o at c e d else []) ≡ false
+    by_rest true = by_drop (is_dropped g o at)
+    by_rest false = refl

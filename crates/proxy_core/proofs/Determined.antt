@@ -1,5 +1,7 @@
 -- Events and recorded choices determine groups and states.
-use Rattle.std.proofs.Common.{◌≡◌, ◌⊎◌, inl, inr, refl, sym, ap, subst, ◌∙◌, ℕ, List, [], ◌∷◌, ◌++◌, append-nil, length, Bool, true, false, ◌||◌, ◌&&◌, Option, None, if◌then◌else◌, arith}
+use Rattle.std.proofs.lemmas.Bool.{and_parts}
+use Rattle.conn.specs.Holds.{Outside}
+use Rattle.std.proofs.Common.{◌≡◌, ◌⊎◌, inl, inr, refl, sym, ap, subst, ◌∙◌, ℕ, List, [], ◌∷◌, ◌++◌, append-nil, length, Bool, true, false, ◌||◌, ◌&&◌, Option, None, if◌then◌else◌, arith, true≢false}
 use Rattle.std.specs.Prelude.{slice_get}
 use Rattle.std.specs.Bool.{MatchBool}
 use Rattle.std.proofs.lemmas.List.{length-append}
@@ -26,12 +28,12 @@ use Rattle.px_bytes.specs.declared.fault.Reply.{Reply}
 use Rattle.conn_trace.specs.Tellings.{choices_told, cut_told, failure_told, finish_told, notes_about, replies_told}
 use Rattle.conn_trace.specs.Trace.{GivesNoMore, next_item, Unfolds}
 use Rattle.conn_trace.proofs.Querying.{given_is_due}
-use Rattle.conn.specs.RunsItems.{Passes, StopsAt, slices_in}
+use Rattle.conn.specs.RunsItems.{Passes, StopsAt, slices_in, is_dropped, is_ended}
 use Rattle.conn.specs.Settling.{closing, is_drained, is_over, settling_at, took_all, given_up_at}
 use Rattle.conn.specs.declared.turn.ConnTurn.{ConnTurn}
 use Rattle.conn.specs.declared.turn.ConnTurn.TheVariants as turn
 use Rattle.proxy_core.proofs.Waking.{same_calls}
-use Rattle.proxy_core.proofs.RunOn.{last_due}
+use Rattle.proxy_core.proofs.RunOn.{last_due, not_ended}
 use Rattle.proxy_core.specs.Calls.{queue_behind}
 use Rattle.proxy_core.specs.Determined.{ChoicesDetermine, FoundMemory, MovesWhole, RunsWhole, SameChoices, WakesOne}
 use Rattle.record_model.specs.History.{store_of}
@@ -78,27 +80,40 @@ slices_whole (turn.Asks call) n w = refl
 slices_whole turn.NotYet n w = refl
 slices_whole turn.Over n w = refl
 
-stopped : (g : Setup) (took : TakenCounts) (at : TraceState) (t : ConnTurn) → IsWhole t → StopsAt g took at t → GivesNoMore true at.sent took (next_item g at)
-stopped g took at turn.More whole k = absurd whole
-stopped g took at (turn.Asks call) whole k = subst (λ o. GivesNoMore true at.sent took o) (sym k) refl
-stopped g took at turn.NotYet whole k = rests_later g took at (next_item g at) k.0
-stopped g took at turn.Over whole k = subst (λ o. GivesNoMore true at.sent took o) (sym (at_end g took at k)) tt
+-- where it has ended its trace is over
+ended_at : (g : Setup) (o : Outside) (at : TraceState) → is_ended g o at ≡ true → next_item g at ≡ IsOver
+ended_at g o at e = by_drop (is_dropped g o at) refl e
+  where
+    over : (x : Next) → is_over x ≡ true → x ≡ IsOver
+    over (Does i m) k = absurd (true≢false (sym k))
+    over (Waits kind) k = absurd (true≢false (sym k))
+    over IsOver k = refl
 
-never_asks : (g : Setup) (took : TakenCounts) (at : TraceState) (call : List (List ℕ)) → next_item g at ≡ Waits (ForReply call) → StopsAt g took at turn.NotYet → ⊥
-never_asks g took at call e k = let clash : false ≡ true = subst (λ o. GivesNoMore false at.sent took o) e k.0 in cc
+    by_drop : (b : Bool) → is_dropped g o at ≡ b → (b || is_drained g o.took at) ≡ true → next_item g at ≡ IsOver
+    by_drop true f k = over (next_item g at) (and_parts (is_over (next_item g at)) o.idle f).0
+    by_drop false f k = at_end g o.took at k
+
+stopped : (g : Setup) (o : Outside) (at : TraceState) (t : ConnTurn) → IsWhole t → StopsAt g o at t → GivesNoMore true at.sent o.took (next_item g at)
+stopped g o at turn.More whole k = absurd whole
+stopped g o at (turn.Asks call) whole k = subst (λ x. GivesNoMore true at.sent o.took x) (sym k) refl
+stopped g o at turn.NotYet whole k = rests_later g o.took at (next_item g at) k.0
+stopped g o at turn.Over whole k = subst (λ x. GivesNoMore true at.sent o.took x) (sym (ended_at g o at k)) tt
+
+never_asks : (g : Setup) (o : Outside) (at : TraceState) (call : List (List ℕ)) → next_item g at ≡ Waits (ForReply call) → StopsAt g o at turn.NotYet → ⊥
+never_asks g o at call e k = let clash : false ≡ true = subst (λ x. GivesNoMore false at.sent o.took x) e k.0 in cc
 
 -- where it stands tells why it stopped
-turns_same : (g : Setup) (took : TakenCounts) (at : TraceState) (t t' : ConnTurn) → IsWhole t → IsWhole t' → StopsAt g took at t → StopsAt g took at t' → t ≡ t'
+turns_same : (g : Setup) (took : Outside) (at : TraceState) (t t' : ConnTurn) → IsWhole t → IsWhole t' → StopsAt g took at t → StopsAt g took at t' → t ≡ t'
 turns_same g took at turn.More t' w w' k k' = absurd w
 turns_same g took at t turn.More w w' k k' = absurd w'
 turns_same g took at (turn.Asks call) (turn.Asks other) w w' k k' = let e : Waits (ForReply call) ≡ Waits (ForReply other) = sym k ∙ k' in cc
 turns_same g took at (turn.Asks call) turn.NotYet w w' k k' = absurd (never_asks g took at call k k')
-turns_same g took at (turn.Asks call) turn.Over w w' k k' = let e : Waits (ForReply call) ≡ IsOver = sym k ∙ at_end g took at k' in cc
+turns_same g took at (turn.Asks call) turn.Over w w' k k' = let e : Waits (ForReply call) ≡ IsOver = sym k ∙ ended_at g took at k' in cc
 turns_same g took at turn.NotYet (turn.Asks call) w w' k k' = absurd (never_asks g took at call k' k)
 turns_same g took at turn.NotYet turn.NotYet w w' k k' = refl
-turns_same g took at turn.NotYet turn.Over w w' k k' = let e : true ≡ false = sym k' ∙ k.1.0 in cc
-turns_same g took at turn.Over (turn.Asks call) w w' k k' = let e : Waits (ForReply call) ≡ IsOver = sym k' ∙ at_end g took at k in cc
-turns_same g took at turn.Over turn.NotYet w w' k k' = let e : true ≡ false = sym k ∙ k'.1.0 in cc
+turns_same g took at turn.NotYet turn.Over w w' k k' = let e : true ≡ false = sym k' ∙ not_ended g took at k.1.1.1 k.1.0 in cc
+turns_same g took at turn.Over (turn.Asks call) w w' k k' = let e : Waits (ForReply call) ≡ IsOver = sym k' ∙ ended_at g took at k in cc
+turns_same g took at turn.Over turn.NotYet w w' k k' = let e : true ≡ false = sym k ∙ not_ended g took at k'.1.1.1 k'.1.0 in cc
 turns_same g took at turn.Over turn.Over w w' k k' = refl
 
 no_rest : (xs more less : List Item) → xs ≡ (xs ++ more) ++ less → more ≡ []
@@ -125,15 +140,16 @@ same_items g took l m n some others one two met met' stop stop' =
     record { items = sym (p.1 ∙ ap (λ (x : List Item). others ++ x) none ∙ append-nil others); at = end }
 
 -- items with the same choices and cut
-pub one_run : (g : Setup) (took : TakenCounts) (l m n : TraceState) (some others : List Item) (t t' : ConnTurn) → Passes g took l some m → Passes g took l others n
-    → IsWhole t → IsWhole t' → StopsAt g took m t → StopsAt g took n t' → choices_in some ≡ choices_in others → cut_in took some ≡ cut_in took others
+pub one_run : (g : Setup) (o : Outside) (l m n : TraceState) (some others : List Item) (t t' : ConnTurn) → Passes g o l some m → Passes g o l others n
+    → IsWhole t → IsWhole t' → StopsAt g o m t → StopsAt g o n t' → choices_in some ≡ choices_in others → cut_in o.took some ≡ cut_in o.took others
     → SameItems some others m n × (t' ≡ t)
-one_run g took l m n some others t t' p q w w' k k' choices cuts =
+one_run g o l m n some others t t' p q w w' k k' choices cuts =
+    let took = o.took in
     let same : taken_by_items took others ≡ taken_by_items took some =
     ap (λ cs. choosing cs (cut_in took others)) (sym choices) ∙ ap (choosing (choices_in some)) (sym cuts) in
     let two = subst (λ f. Unfolds g (longer f l) others n) same q.passed in
-    let it = same_items g took (longer (taken_by_items took some) l) m n some others p.passed two p.met q.met (stopped g took m t w k) (stopped g took n t' w' k') in
-    (it, turns_same g took m t' t w' w (subst (λ y. StopsAt g took y t') it.at k') k)
+    let it = same_items g took (longer (taken_by_items took some) l) m n some others p.passed two p.met q.met (stopped g o m t w k) (stopped g o n t' w' k') in
+    (it, turns_same g o m t' t w' w (subst (λ y. StopsAt g o y t') it.at k') k)
 
 -- ---- what settles a connection
 

@@ -1,4 +1,5 @@
 -- The client's end is open from its accept on, until it is closed; and notes that are due fit where the ends stand.
+use Rattle.conn.specs.Holds.{Outside}
 use Rattle.std.proofs.Common.{◌≡◌, ◌⊎◌, inl, inr, refl, sym, ap, ◌∙◌, ℕ, List, [], ◌∷◌, ◌++◌, Bool, true, false, ◌&&◌, not, nat_eq, if◌then◌else◌}
 use Rattle.std.specs.Prelude.{is_some}
 use Rattle.std.proofs.lemmas.Bool.{and_from, and_parts}
@@ -23,7 +24,7 @@ use Rattle.conn_trace.specs.Setup.{Setup}
 use Rattle.conn_trace.specs.State.{TraceState}
 use Rattle.conn_trace.specs.Tellings.{own}
 use Rattle.conn_trace.specs.Trace.{next_item}
-use Rattle.conn.specs.RunsItems.{is_resting, told_behind}
+use Rattle.conn.specs.RunsItems.{is_resting, told_behind, is_dropped, told_at_rest}
 use Rattle.conn.specs.Settling.{client_notes, close_notes, closing, half_close, is_over, is_there, note_if, resting, server_notes, settling, settling_at, took_all, given_up_at}
 use Rattle.conn.specs.declared.turn.ConnTurn.{ConnTurn}
 use Rattle.conn.specs.declared.turn.ConnTurn.TheVariants as turn
@@ -140,11 +141,15 @@ fit_resting g took at c e d k =
     (fit_joined two last x (fit_if (is_due took at e Server) (note.HalfClose c Server) x (half_fits (half_close_due at took Server) e.server x.server (k Server) x_whole))
     (fit_settling (is_over (next_item g at)) (given_up_at at) c e (edges_noted two x) (took_all at took Server) (took_all at took Client) d y_server y_client))
 
-pub fit_behind : (t : ConnTurn) (g : Setup) (took : TakenCounts) (at : TraceState) (c : ℕ) (e : Edges) (d : ℕ) → HalvesThere took at e → Fit (told_behind t g took at c e d) e
-fit_behind t g took at c e d k = by_rest (is_resting t)
+pub fit_behind : (t : ConnTurn) (g : Setup) (o : Outside) (at : TraceState) (c : ℕ) (e : Edges) (d : ℕ) → HalvesThere o.took at e → Fit (told_behind t g o at c e d) e
+fit_behind t g o at c e d k = by_rest (is_resting t)
   where
-    by_rest : (b : Bool) → Fit (if b then resting g took at c e d else []) e
-    by_rest true = fit_resting g took at c e d k
+    by_drop : (b : Bool) → Fit (if b then closing c e d else resting g o.took at c e d) e
+    by_drop true = fit_closing c e d
+    by_drop false = fit_resting g o.took at c e d k
+
+    by_rest : (b : Bool) → Fit (if b then told_at_rest g o at c e d else []) e
+    by_rest true = by_drop (is_dropped g o at)
     by_rest false = tt
 
 fit_sleep : (t : ConnTurn) (c moment : ℕ) (e : Edges) → Fit (sleep_note t c moment) e
@@ -157,7 +162,7 @@ fit_sleep (turn.Asks call) c moment e = by_test (sleeps call)
 fit_sleep turn.NotYet c moment e = tt
 fit_sleep turn.Over c moment e = tt
 
-pub fit_last : (t : ConnTurn) (g : Setup) (took : TakenCounts) (at : TraceState) (c : ℕ) (e : Edges) (d moment : ℕ) → HalvesThere took at e → Fit (told_last t g took at c e d moment) e
-fit_last t g took at c e d moment k =
-    let rested = told_behind t g took at c e d in
-    fit_joined rested (sleep_note t c moment) e (fit_behind t g took at c e d k) (fit_sleep t c moment (edges_noted rested e))
+pub fit_last : (t : ConnTurn) (g : Setup) (o : Outside) (at : TraceState) (c : ℕ) (e : Edges) (d moment : ℕ) → HalvesThere o.took at e → Fit (told_last t g o at c e d moment) e
+fit_last t g o at c e d moment k =
+    let rested = told_behind t g o at c e d in
+    fit_joined rested (sleep_note t c moment) e (fit_behind t g o at c e d k) (fit_sleep t c moment (edges_noted rested e))

@@ -1,4 +1,6 @@
 -- An event changes one connection alone: the others see the same.
+use Rattle.record_model.specs.Quiet.{quiet}
+use Rattle.conn.specs.Holds.{Outside}
 use Rattle.std.proofs.Common.{◌≡◌, refl, sym, ap, subst, ◌∙◌, ℕ, List, [], ◌∷◌, ◌++◌, append-nil, length, Bool, true, false, nat_eq, inl, inr, ◌⊎◌, if◌then◌else◌, Option, Some, None}
 use Rattle.std.specs.Bool.{MatchBool}
 use Rattle.core_events.specs.declared.note.Cause.TheVariants.{Memory}
@@ -25,7 +27,7 @@ use Rattle.proxy_core.specs.declared.call.Asleep.{Asleep}
 use Rattle.proxy_core.specs.Others.{about, front}
 use Rattle.record_model.specs.Past.{Past, heard, ended_in, without_all, with_accepted, shared}
 use Rattle.proxy_core.specs.Ready.{is_in, ring_behind, with_ready, without}
-use Rattle.conn.specs.RunsItems.{is_resting, slices_in, told_behind}
+use Rattle.conn.specs.RunsItems.{is_resting, slices_in, told_behind, is_dropped, told_at_rest}
 use Rattle.conn.specs.Settling.{closing, resting, settling_at, given_up_at}
 use Rattle.core_events.specs.Edges.{edges_noted}
 use Rattle.conn_trace.specs.Gates.{TakenCounts}
@@ -33,7 +35,7 @@ use Rattle.conn_trace.specs.Setup.{Setup}
 use Rattle.conn_trace.specs.State.{TraceState}
 use Rattle.core_events.specs.declared.edges.Edges.{Edges}
 use Rattle.conn.specs.declared.turn.ConnTurn.{ConnTurn}
-use Rattle.proxy_core.specs.Scheduler.{State, called_by, entries, open_calls, Seen, seen, seen_after, untaken_all, with_asleep}
+use Rattle.proxy_core.specs.Scheduler.{State, called_by, entries, open_calls, Seen, seen, seen_after, untaken_all, with_asleep, outside_of}
 use Rattle.run_config.specs.declared.config.Config.{Config}
 use Rattle.proxy_core.proofs.Entries.{entries_behind, entries_pushed, entries_rest, entries_without, entries_ready, entries_woken, asleep_other, calls_behind, calls_joined, calls_rest, calls_without, open_with}
 use Rattle.proxy_core.proofs.GroupNotes.{About, about_joined, closing_due, due_about, own_none, resting_due, settling_due, sleep_due, whole_notes}
@@ -98,15 +100,19 @@ comes_touch over c group notes old new a e f = touched c group notes old new (ca
 pub about_settling : (g : Setup) (took : TakenCounts) (at : TraceState) (c : ℕ) (e : Edges) (d : ℕ) → About c (settling_at g took at c e d)
 about_settling g took at c e d = due_about c (settling_at g took at c e d) (settling_due (is_over (next_item g at)) (given_up_at at) c e (took_all at took Server) (took_all at took Client) d)
 
-pub about_behind : (t : ConnTurn) (g : Setup) (took : TakenCounts) (at : TraceState) (c : ℕ) (e : Edges) (d : ℕ) → About c (told_behind t g took at c e d)
-about_behind t g took at c e d = by_rest (is_resting t)
+pub about_behind : (t : ConnTurn) (g : Setup) (o : Outside) (at : TraceState) (c : ℕ) (e : Edges) (d : ℕ) → About c (told_behind t g o at c e d)
+about_behind t g o at c e d = by_rest (is_resting t)
   where
-    by_rest : (b : Bool) → About c (if b then resting g took at c e d else [])
-    by_rest true = due_about c (resting g took at c e d) (resting_due g took at c e d)
+    by_drop : (b : Bool) → About c (if b then closing c e d else resting g o.took at c e d)
+    by_drop true = due_about c (closing c e d) (closing_due c e d)
+    by_drop false = due_about c (resting g o.took at c e d) (resting_due g o.took at c e d)
+
+    by_rest : (b : Bool) → About c (if b then told_at_rest g o at c e d else [])
+    by_rest true = by_drop (is_dropped g o at)
     by_rest false = tt
 
-pub about_last : (t : ConnTurn) (g : Setup) (took : TakenCounts) (at : TraceState) (c : ℕ) (e : Edges) (d moment : ℕ) → About c (told_last t g took at c e d moment)
-about_last t g took at c e d moment = about_joined c (told_behind t g took at c e d) (sleep_note t c moment) (about_behind t g took at c e d) (due_about c (sleep_note t c moment) (sleep_due t c moment))
+pub about_last : (t : ConnTurn) (g : Setup) (o : Outside) (at : TraceState) (c : ℕ) (e : Edges) (d moment : ℕ) → About c (told_last t g o at c e d moment)
+about_last t g o at c e d moment = about_joined c (told_behind t g o at c e d) (sleep_note t c moment) (about_behind t g o at c e d) (due_about c (sleep_note t c moment) (sleep_due t c moment))
 
 -- the front ran: its notes are about it
 ran_touch : (c : ℕ) (rest after : List ℕ) (queue : List Asked) (o : Option Asleep) (more : List Item) (slices : ℕ) (group notes : List Note) (old new : State) → old.ring ≡ c ∷ rest → ((q : ℕ) → nat_eq q c ≡ false → entries q after ≡ entries q rest) → ((q : ℕ) → nat_eq q c ≡ false → calls_of q queue ≡ calls_of q old.queue) → group ≡ notes → About c notes → new ≡ ran c after queue o more slices old → Touches c group old new
@@ -123,7 +129,7 @@ by_ring : (C : Config) (past : Past) (ring : List ℕ) (group : List Note) (old 
 by_ring C past [] group old new e m = rests 0 group old new m
 by_ring C past (c ∷ rest) group old new e m = by_failed (heard c past).failed m
   where
-    by_failed : (b : Bool) → MatchBool b (RunsFailed (heard c past) c rest group old new) (RunsOn C (heard c past) (shared past).moment c rest group old new ⊎ RunsOut C (heard c past) c rest group old new) → Touches c group old new
+    by_failed : (b : Bool) → MatchBool b (RunsFailed (heard c past) c rest group old new) (RunsOn C (heard c past) (outside_of C (heard c past) (quiet c past)) (shared past).moment c rest group old new ⊎ RunsOut C (heard c past) (outside_of C (heard c past) (quiet c past)) c rest group old new) → Touches c group old new
     by_failed true k =
         let notes = closing c (heard c past).edges (untaken_all (heard c past) (old.places c)) in
         touched c group notes old new (record old { ring = rest }) k.notes k.state (record { notes = due_about c notes (closing_due c (heard c past).edges (untaken_all (heard c past) (old.places c))); ready = λ q h. entries_rest c q rest (eq_turned c q h) ∙ ap (entries q) (sym e); asked = λ q h. refl; place = λ q h. refl; spent = λ q h. refl })
@@ -134,10 +140,10 @@ by_ring C past (c ∷ rest) group old new e m = by_failed (heard c past).failed 
         let ends = edges_noted notes h.edges in
         let d = untaken_all h (old.places c ++ k.more) in
         let m = (shared past).moment in
-        let behind = told_last k.turn (setup_of C h) (taken h) k.at c ends d m in
+        let behind = told_last k.turn (setup_of C h) (outside_of C h (quiet c past)) k.at c ends d m in
         ran_touch c rest (ring_behind k.turn c rest) (queue_behind k.turn c old.queue) (asleep_behind k.turn c m (old.asleep c)) k.more (slices_in k.turn (length k.told)) group (notes ++ behind) old new e (λ q h. entries_behind k.turn c q rest h) (λ q h. calls_behind k.turn c q old.queue h)
         (whole_notes k.turn c m group k.told notes _ k.notes k.items.noted)
-        (about_joined c notes behind about (about_last k.turn (setup_of C h) (taken h) k.at c ends d m)) k.state
+        (about_joined c notes behind about (about_last k.turn (setup_of C h) (outside_of C h (quiet c past)) k.at c ends d m)) k.state
     by_failed false (inr k) =
         let h = heard c past in
         let notes = run_notes c (stand_of C h (old.places c)).sent (taken h) k.more in

@@ -1,5 +1,5 @@
 -- A connection of the code that runs: what it goes on with, for what was heard then.
-use Rattle.std.proofs.Common.{◌≡◌, ◌⊎◌, inl, inr, refl, sym, ap, subst, ◌∙◌, ℕ, suc, ◌+◌, ◌*◌, ◌-◌, ◌≤◌, ◌<◌, nat_lt, List, [], ◌∷◌, ◌++◌, length, drop, Bool, true, false, ◌||◌, Option, Some, None, nat_eq, if◌then◌else◌, arith, length-append, append-nil}
+use Rattle.std.proofs.Common.{◌≡◌, ◌⊎◌, inl, inr, refl, sym, ap, subst, ◌∙◌, ℕ, suc, ◌+◌, ◌*◌, ◌-◌, ◌≤◌, ◌<◌, nat_lt, List, [], ◌∷◌, ◌++◌, length, drop, Bool, true, false, ◌||◌, Option, Some, None, nat_eq, if◌then◌else◌, arith, length-append, append-nil, ◌&&◌}
 use Rattle.std.specs.Bool.{MatchBool}
 use Rattle.std.proofs.lemmas.List.{length-drop, drop-append-le}
 use Rattle.std.proofs.lemmas.Bool.Decides.{nat_tests}
@@ -23,11 +23,11 @@ use Rattle.conn_trace.specs.Trace.{Unfolds}
 use Rattle.conn_trace.proofs.Costs.{paid_joins}
 use Rattle.conn_trace.proofs.Given.{sent_output}
 use Rattle.conn.specs.Ends.{queued_in}
-use Rattle.conn.specs.Holds.{Around, Holds, HoldsEnds}
+use Rattle.conn.specs.Holds.{Around, Holds, HoldsEnds, Outside}
 use Rattle.conn.specs.Paid.{Paid}
 use Rattle.conn.specs.Runs.{GoesOnWith, IsWhole, StopsWithout}
-use Rattle.conn.specs.RunsItems.{Passes, RunsItems, StopsAt, asks, ends, is_resting, out_of_memory, slices_in, told_behind}
-use Rattle.conn.specs.Settling.{closing, resting}
+use Rattle.conn.specs.RunsItems.{Passes, RunsItems, StopsAt, asks, ends, is_resting, out_of_memory, slices_in, told_behind, is_dropped, is_ended, told_at_rest}
+use Rattle.conn.specs.Settling.{closing, resting, is_drained, is_over}
 use Rattle.conn.specs.Setups as conn
 use Rattle.conn.specs.declared.connection.Conn.{Conn}
 use Rattle.conn.specs.declared.ends.Ends.{Ends}
@@ -69,31 +69,51 @@ use Rattle.conn_trace.proofs.Streams.{link_same, nothing_on_last}
 
 -- ---- what is told behind its items
 
-pub told_due : (t : ConnTurn) (g : Setup) (took : TakenCounts) (at : TraceState) (c : ℕ) (e : Edges) (d : ℕ) → AreDue c (told_behind t g took at c e d)
-told_due t g took at c e d = by_rest (is_resting t)
+pub told_due : (t : ConnTurn) (g : Setup) (o : Outside) (at : TraceState) (c : ℕ) (e : Edges) (d : ℕ) → AreDue c (told_behind t g o at c e d)
+told_due t g o at c e d = by_rest (is_resting t)
   where
-    by_rest : (b : Bool) → AreDue c (if b then resting g took at c e d else [])
-    by_rest true = resting_due g took at c e d
+    by_drop : (b : Bool) → AreDue c (if b then closing c e d else resting g o.took at c e d)
+    by_drop true = closing_due c e d
+    by_drop false = resting_due g o.took at c e d
+
+    by_rest : (b : Bool) → AreDue c (if b then told_at_rest g o at c e d else [])
+    by_rest true = by_drop (is_dropped g o at)
     by_rest false = tt
 
-pub told_ends : (t : ConnTurn) (g : Setup) (took : TakenCounts) (at : TraceState) (c : ℕ) (e : Edges) (d : ℕ) → StopsAt g took at t → ended_in (told_behind t g took at c e d) ≡ (if ends t then c ∷ [] else [])
-told_ends turn.More g took at c e d stops = refl
-told_ends (turn.Asks call) g took at c e d stops = refl
-told_ends turn.NotYet g took at c e d stops = ended_resting g took at c e d ∙ ap (λ (b : Bool). if b then c ∷ [] else []) stops.1.0
-told_ends turn.Over g took at c e d stops = ended_resting g took at c e d ∙ ap (λ (b : Bool). if b then c ∷ [] else []) stops
+-- where it rests it ends exactly where its trace is over and all of it was taken, or what is left is dropped
+rest_ends : (g : Setup) (o : Outside) (at : TraceState) (c : ℕ) (e : Edges) (d : ℕ) → ended_in (told_at_rest g o at c e d) ≡ (if is_ended g o at then c ∷ [] else [])
+rest_ends g o at c e d = by_drop (is_dropped g o at)
+  where
+    by_drop : (b : Bool) → ended_in (if b then closing c e d else resting g o.took at c e d) ≡ (if b || is_drained g o.took at then c ∷ [] else [])
+    by_drop true = ended_closing c e d
+    by_drop false = ended_resting g o.took at c e d
 
-pub last_due : (t : ConnTurn) (g : Setup) (took : TakenCounts) (at : TraceState) (c : ℕ) (e : Edges) (d moment : ℕ) → AreDue c (told_last t g took at c e d moment)
-last_due t g took at c e d moment = due_both c (told_behind t g took at c e d) (sleep_note t c moment) (told_due t g took at c e d) (sleep_due t c moment)
+-- one that isn't over and is in time isn't ended
+pub not_ended : (g : Setup) (o : Outside) (at : TraceState) → o.idle ≡ false → is_drained g o.took at ≡ false → is_ended g o at ≡ false
+not_ended g o at idle drained = ap (λ b. (is_over (next_item g at) && b) || is_drained g o.took at) idle ∙ by_over (is_over (next_item g at))
+  where
+    by_over : (b : Bool) → ((b && false) || is_drained g o.took at) ≡ false
+    by_over true = drained
+    by_over false = drained
 
-pub last_ends : (t : ConnTurn) (g : Setup) (took : TakenCounts) (at : TraceState) (c : ℕ) (e : Edges) (d moment : ℕ) → StopsAt g took at t → ended_in (told_last t g took at c e d moment) ≡ (if ends t then c ∷ [] else [])
-last_ends turn.More g took at c e d moment stops = refl
-last_ends (turn.Asks call) g took at c e d moment stops = by_test (sleeps call)
+pub told_ends : (t : ConnTurn) (g : Setup) (o : Outside) (at : TraceState) (c : ℕ) (e : Edges) (d : ℕ) → StopsAt g o at t → ended_in (told_behind t g o at c e d) ≡ (if ends t then c ∷ [] else [])
+told_ends turn.More g o at c e d stops = refl
+told_ends (turn.Asks call) g o at c e d stops = refl
+told_ends turn.NotYet g o at c e d stops = rest_ends g o at c e d ∙ ap (λ (b : Bool). if b then c ∷ [] else []) (not_ended g o at stops.1.1.1 stops.1.0)
+told_ends turn.Over g o at c e d stops = rest_ends g o at c e d ∙ ap (λ (b : Bool). if b then c ∷ [] else []) stops
+
+pub last_due : (t : ConnTurn) (g : Setup) (o : Outside) (at : TraceState) (c : ℕ) (e : Edges) (d moment : ℕ) → AreDue c (told_last t g o at c e d moment)
+last_due t g o at c e d moment = due_both c (told_behind t g o at c e d) (sleep_note t c moment) (told_due t g o at c e d) (sleep_due t c moment)
+
+pub last_ends : (t : ConnTurn) (g : Setup) (o : Outside) (at : TraceState) (c : ℕ) (e : Edges) (d moment : ℕ) → StopsAt g o at t → ended_in (told_last t g o at c e d moment) ≡ (if ends t then c ∷ [] else [])
+last_ends turn.More g o at c e d moment stops = refl
+last_ends (turn.Asks call) g o at c e d moment stops = by_test (sleeps call)
   where
     by_test : (b : Bool) → ended_in (if b then Sleep c (wakes_at moment call) ∷ [] else []) ≡ []
     by_test true = refl
     by_test false = refl
-last_ends turn.NotYet g took at c e d moment stops = ap ended_in (append-nil (told_behind turn.NotYet g took at c e d)) ∙ told_ends turn.NotYet g took at c e d stops
-last_ends turn.Over g took at c e d moment stops = ap ended_in (append-nil (told_behind turn.Over g took at c e d)) ∙ told_ends turn.Over g took at c e d stops
+last_ends turn.NotYet g o at c e d moment stops = ap ended_in (append-nil (told_behind turn.NotYet g o at c e d)) ∙ told_ends turn.NotYet g o at c e d stops
+last_ends turn.Over g o at c e d moment stops = ap ended_in (append-nil (told_behind turn.Over g o at c e d)) ∙ told_ends turn.Over g o at c e d stops
 
 -- that a call sleeps moves no end
 sleep_edges : (t : ConnTurn) (c moment : ℕ) (e : Edges) → edges_noted (sleep_note t c moment) e ≡ e
