@@ -19,7 +19,7 @@ use Rattle.conn_trace.specs.Item.{Item, to_client, client_output, server_output}
 use Rattle.conn_trace.specs.Setup.{Setup}
 use Rattle.conn_trace.specs.State.{TraceState, link_of}
 use Rattle.conn_trace.specs.Tellings.{notes_about, failure_told}
-use Rattle.conn_trace.specs.Trace.{Unfolds}
+use Rattle.conn_trace.specs.Trace.{Unfolds, next_item}
 use Rattle.conn_trace.proofs.Costs.{paid_joins}
 use Rattle.conn_trace.proofs.Given.{sent_output}
 use Rattle.conn.specs.Ends.{queued_in}
