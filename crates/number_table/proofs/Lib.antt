@@ -2,4 +2,4 @@ pub mod Entries
 pub mod Numbers
 pub mod Ring
 pub mod Sounds
-pub mod Timed
+pub mod Deadlines

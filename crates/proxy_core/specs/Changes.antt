@@ -265,10 +265,6 @@ pub record PassesAt (old new : Core) (at : ℕ) : Type 0 where
     };
   }
 
-abbrev pub PassesIdle : Core → Core → Type 0
-PassesIdle old new =
-    ((new ≡ old) × NoneDue old.live.dues old.moment) ⊎ ((at : ℕ) × PassesAt old new at)
-
 pub record Readied (old : Core) (moment : ℕ) (numbers : List ℕ) : Type 0 where
   pub each : (at : ℕ) (l : Live) → slice_get old.live.items at ≡ Some l
       → filter (nat_eq l.number) numbers
@@ -276,15 +272,23 @@ pub record Readied (old : Core) (moment : ℕ) (numbers : List ℕ) : Type 0 whe
       && not (is_in old.live.ring l.number)) then l.number ∷ [] else [])
   pub others : (c : ℕ) → place_of old.live.items c ≡ None → filter (nat_eq c) numbers ≡ []
 
-pub record TicksTo (old new : Core) (moment : ℕ) : Type 0 where
-  pub keeps : KeepsConfig old new
-  pub last : new.last ≡ old.last
-  pub moment_is : new.moment ≡ moment
+pub record IdlesBy (old new : Core) (moment : ℕ) : Type 0 where
   pub live : new.live.items ≡ idled_by moment old.live.dues old.live.items
   pub dues : new.live.dues ≡ map (due_behind moment) old.live.dues
   pub numbers : List ℕ
   pub ring : new.live.ring ≡ old.live.ring ++ numbers
   pub readied : Readied old moment numbers
+
+-- at the core's own moment, and nothing else changes
+pub record IdlesAll (old new : Core) : Type 0 where
+  pub passes : IdlesBy old new old.moment
+  pub rest : new ≡ record old { live = new.live }
+
+pub record TicksTo (old new : Core) (moment : ℕ) : Type 0 where
+  pub keeps : KeepsConfig old new
+  pub last : new.last ≡ old.last
+  pub moment_is : new.moment ≡ moment
+  pub passes : IdlesBy old new moment
   pub queue : length old.queue.items + length old.queue.asleep ≤ old.config.connections
       → new.queue.items ≡ old.queue.items ++ woken_calls moment old.queue.asleep
   pub asleep : new.queue.asleep ≡ sleeping_on moment old.queue.asleep

@@ -4,7 +4,7 @@ use Rattle.number_table.proofs.Entries.{items_same}
 use Rattle.number_table.proofs.Numbers.{length_numbers, numbers_set}
 use Rattle.number_table.proofs.Ring.{flag_at, in_numbers, ring_room}
 use Rattle.number_table.proofs.Sounds.{entry_within, read_same, ready_goes, ready_stays, sound_ready}
-use Rattle.number_table.proofs.Timed.{dues_set, timed_set}
+use Rattle.number_table.proofs.Deadlines.{dues_set, timed_set}
 use Rattle.number_table.proofs.Table.make_ready.Goals as goal
 
 pub index-entry-requires : goal.index-entry-requires

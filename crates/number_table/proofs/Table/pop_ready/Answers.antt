@@ -3,7 +3,7 @@ use Rattle.std.proofs.lemmas.Option.{slice_get_read}
 use Rattle.number_table.proofs.Entries.{items_same, length_items}
 use Rattle.number_table.proofs.Numbers.{found_at, has_place, number_at, numbers_set}
 use Rattle.number_table.proofs.Sounds.{front_in, front_once, sound_pop}
-use Rattle.number_table.proofs.Timed.{dues_set, timed_set}
+use Rattle.number_table.proofs.Deadlines.{dues_set, timed_set}
 use Rattle.number_table.proofs.Table.pop_ready.Goals as goal
 
 pub unreachable-requires : goal.unreachable-requires

@@ -6,7 +6,7 @@ use Rattle.number_table.proofs.Entries.{items_push, length_items, vacant_is_othe
 use Rattle.number_table.proofs.Numbers.{length_numbers}
 use Rattle.number_table.proofs.Ring.{ring_within}
 use Rattle.number_table.proofs.Sounds.{fresh_number, sound_push}
-use Rattle.number_table.proofs.Timed.{due_none, dues_push, timed_push}
+use Rattle.number_table.proofs.Deadlines.{due_none, dues_push, timed_push}
 use Rattle.number_table.proofs.Table.push.Goals as goal
 
 pub insert_reserved-key-requires : goal.insert_reserved-key-requires

@@ -5,7 +5,7 @@ use Rattle.number_table.specs.Layout.{items_of}
 use Rattle.number_table.proofs.Entries.{item_at, items_remove}
 use Rattle.number_table.proofs.Numbers.{numbers_remove}
 use Rattle.number_table.proofs.Sounds.{entry_within, sound_remove}
-use Rattle.number_table.proofs.Timed.{dues_remove, timed_remove, within_at}
+use Rattle.number_table.proofs.Deadlines.{dues_remove, timed_remove, within_at}
 use Rattle.number_table.proofs.Table.remove.Goals as goal
 
 pub remove-entry-requires : goal.remove-entry-requires

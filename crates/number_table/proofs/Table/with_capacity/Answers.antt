@@ -1,6 +1,6 @@
 use Rattle.std.proofs.Common.{◌∙◌, ◌<◌, ◌^◌, ap, arith, subst, None, replicate}
 use Rattle.number_table.proofs.Sounds.{sound_none}
-use Rattle.number_table.proofs.Timed.{timed_none}
+use Rattle.number_table.proofs.Deadlines.{timed_none}
 use Rattle.number_table.proofs.Table.with_capacity.Goals as goal
 
 pub invariant_of-result : goal.invariant_of-result
