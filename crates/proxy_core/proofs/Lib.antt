@@ -79,3 +79,5 @@ pub mod BytesBounded
 pub mod Taking
 pub mod Waking
 pub mod Determined
+pub mod Quiets
+pub mod Ticking
