@@ -1,5 +1,5 @@
 -- An event changes one connection alone: the others see the same.
-use Rattle.record_model.specs.Quiet.{quiet}
+use Rattle.record_model.specs.Quiet.{is_idle, quiet}
 use Rattle.conn.specs.Holds.{Outside}
 use Rattle.std.proofs.Common.{◌≡◌, refl, sym, ap, subst, ◌∙◌, ℕ, List, [], ◌∷◌, ◌++◌, append-nil, length, Bool, true, false, nat_eq, inl, inr, ◌⊎◌, if◌then◌else◌, Option, Some, None}
 use Rattle.std.specs.Bool.{MatchBool}
@@ -129,7 +129,7 @@ by_ring : (C : Config) (past : Past) (ring : List ℕ) (group : List Note) (old 
 by_ring C past [] group old new e m = rests 0 group old new m
 by_ring C past (c ∷ rest) group old new e m = by_failed (heard c past).failed m
   where
-    by_failed : (b : Bool) → MatchBool b (RunsFailed (heard c past) c rest group old new) (RunsOn C (heard c past) (outside_of C (heard c past) (quiet c past)) (shared past).moment c rest group old new ⊎ RunsOut C (heard c past) (outside_of C (heard c past) (quiet c past)) c rest group old new) → Touches c group old new
+    by_failed : (b : Bool) → MatchBool b (RunsFailed (heard c past) c rest group old new) (RunsOn C (heard c past) (outside_of (is_idle C (quiet c past)) (heard c past)) (shared past).moment c rest group old new ⊎ RunsOut C (heard c past) (outside_of (is_idle C (quiet c past)) (heard c past)) c rest group old new) → Touches c group old new
     by_failed true k =
         let notes = closing c (heard c past).edges (untaken_all (heard c past) (old.places c)) in
         touched c group notes old new (record old { ring = rest }) k.notes k.state (record { notes = due_about c notes (closing_due c (heard c past).edges (untaken_all (heard c past) (old.places c))); ready = λ q h. entries_rest c q rest (eq_turned c q h) ∙ ap (entries q) (sym e); asked = λ q h. refl; place = λ q h. refl; spent = λ q h. refl })
@@ -140,10 +140,10 @@ by_ring C past (c ∷ rest) group old new e m = by_failed (heard c past).failed 
         let ends = edges_noted notes h.edges in
         let d = untaken_all h (old.places c ++ k.more) in
         let m = (shared past).moment in
-        let behind = told_last k.turn (setup_of C h) (outside_of C h (quiet c past)) k.at c ends d m in
+        let behind = told_last k.turn (setup_of C h) (outside_of (is_idle C (quiet c past)) h) k.at c ends d m in
         ran_touch c rest (ring_behind k.turn c rest) (queue_behind k.turn c old.queue) (asleep_behind k.turn c m (old.asleep c)) k.more (slices_in k.turn (length k.told)) group (notes ++ behind) old new e (λ q h. entries_behind k.turn c q rest h) (λ q h. calls_behind k.turn c q old.queue h)
         (whole_notes k.turn c m group k.told notes _ k.notes k.items.noted)
-        (about_joined c notes behind about (about_last k.turn (setup_of C h) (outside_of C h (quiet c past)) k.at c ends d m)) k.state
+        (about_joined c notes behind about (about_last k.turn (setup_of C h) (outside_of (is_idle C (quiet c past)) h) k.at c ends d m)) k.state
     by_failed false (inr k) =
         let h = heard c past in
         let notes = run_notes c (stand_of C h (old.places c)).sent (taken h) k.more in

@@ -29,7 +29,7 @@ use Rattle.proxy_core.specs.Calls.{calls_of, falls_asleep, is_any, queue_behind,
 use Rattle.proxy_core.specs.Calls.{without_calls, woken}
 use Rattle.record_model.specs.Clock.{is_due}
 use Rattle.record_model.specs.History.{store_of}
-use Rattle.record_model.specs.Quiet.{event_quiet, quiet, reached}
+use Rattle.record_model.specs.Quiet.{event_quiet, is_idle, quiet, reached}
 use Rattle.proxy_core.specs.Live.{entry_note, takes_memory}
 use Rattle.core_events.specs.Kinds.{kind_of}
 use Rattle.record_model.specs.Past.{Happened, Past, heard, shared}
@@ -171,7 +171,7 @@ MovesFront C h o moment c rest group old new =
 abbrev pub MovesRing : Config → Past → List ℕ → List Note → State → State → Type 0
 MovesRing C past [] group old new = Rests group old new
 MovesRing C past (c ∷ rest) group old new =
-    MovesFront C (heard c past) (outside_of C (heard c past) (quiet c past)) (shared past).moment c
+    MovesFront C (heard c past) (outside_of (is_idle C (quiet c past)) (heard c past)) (shared past).moment c
     rest group old new
 
 -- the notes of an answered call: its entry; where the reply finds no memory, the Finish behind it;

@@ -31,12 +31,12 @@ use Rattle.proxy_core.specs.declared.call.Asleep.{Asleep}
 use Rattle.proxy_core.specs.declared.live.Live.{Live}
 
 -- what was told of it from outside
-abbrev pub around : Config → Seen → Around
-around C z = record {
-  took = taken z.heard;
-  idle = is_idle C z.quiet;
-  counted = z.heard.client.took;
-  counted_server = last_took z.heard.connects;
+abbrev pub around : (idle : Bool) → Heard → Around
+around idle h = record {
+  took = taken h;
+  idle = idle;
+  counted = h.client.took;
+  counted_server = last_took h.connects;
 }
 
 -- What waits for its sides is what was sent to them and not taken: to the server's, of the last that was
@@ -51,7 +51,8 @@ pub record HoldsQueues (h : Heard) (place : List Item) (e : Ends) : Type 0 where
 -- for, each with 1,991 steps
 pub record Continues (C : Config) (z : Seen) (conn : Conn) : Type 0 where
   pub not_failed : z.heard.failed ≡ false
-  pub holds : Holds (setup_of C z.heard) (around C z) (stand_of C z.heard z.place) conn
+  pub holds : Holds (setup_of C z.heard) (around (is_idle C z.quiet) z.heard)
+      (stand_of C z.heard z.place) conn
   pub queues : HoldsQueues z.heard z.place conn.ends
   pub paid : Paid (setup_of C z.heard) (stand_of C z.heard z.place) conn (1991 * z.spent)
       (paid_by z.place)
@@ -62,7 +63,7 @@ pub record Lacks (C : Config) (z : Seen) (conn : Conn) : Type 0 where
   pub failed : z.heard.failed ≡ true
   pub finished : z.heard.finished ≡ true
   pub there : conn.stage ≡ OutOfMemory
-  pub ends : HoldsEnds (around C z) (stand_of C z.heard z.place) conn.ends
+  pub ends : HoldsEnds (around (is_idle C z.quiet) z.heard) (stand_of C z.heard z.place) conn.ends
   pub queues : HoldsQueues z.heard z.place conn.ends
 
 -- no memory was found for it when it was accepted

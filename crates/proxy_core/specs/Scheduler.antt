@@ -13,8 +13,7 @@ use Rattle.conn_trace.specs.Item.{Item, client_output, server_output}
 use Rattle.conn.specs.Holds.{Outside}
 use Rattle.proxy_core.specs.Calls.{calls_of}
 use Rattle.record_model.specs.Past.{Past, heard, shared, shared_after}
-use Rattle.record_model.specs.Quiet.{Quiet, is_idle, quiet, quiet_after}
-use Rattle.run_config.specs.declared.config.Config.{Config}
+use Rattle.record_model.specs.Quiet.{Quiet, quiet, quiet_after}
 use Rattle.proxy_core.specs.Ready.{is_in}
 use Rattle.proxy_core.specs.declared.call.Asked.{Asked}
 use Rattle.proxy_core.specs.declared.call.Asleep.{Asleep}
@@ -91,8 +90,8 @@ seen_after past v group s c =
     (shared_after v group (shared past)).live s c
 
 -- what was told of it from outside, as far as a Run rests on it
-abbrev pub outside_of : Config → Heard → Quiet → Outside
-outside_of C h k = record { took = taken h; idle = is_idle C k }
+abbrev pub outside_of : (idle : Bool) → Heard → Outside
+outside_of idle h = record { took = taken h; idle = idle }
 
 -- the bytes that were sent to a side, by these items, and not taken; a reset leaves none
 abbrev pub untaken_of : Heard → List Item → Side → ℕ

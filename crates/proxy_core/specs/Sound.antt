@@ -132,7 +132,7 @@ pub record ServedAt (C : Config) (g : Setup) (c : ℕ) (z : Seen) (at : TraceSta
   pub licensed : (cut : Cut) → z.heard.cut ≡ Some cut
       → licenses C z.heard z.quiet cut.reason ≡ true
   pub told : CallsTold z.heard.failed z.asked z.place z.heard.notes
-  pub spot : Spot z.heard.failed z.live z.ready z.asked g (outside_of C z.heard z.quiet) at
+  pub spot : Spot z.heard.failed z.live z.ready z.asked g (outside_of (is_idle C z.quiet) z.heard) at
       z.heard.edges
 
 abbrev pub Served : Config → ℕ → Seen → Type 0
