@@ -23,9 +23,9 @@ use Rattle.core_events.specs.declared.note.Note.TheVariants.{CloseServer}
 use Rattle.px_bytes.specs.declared.addr.Side.TheVariants.{Server}
 use Rattle.core_events.specs.Edges.{is_connecting}
 use Rattle.core_events.specs.Kinds.{kind_of}
-use Rattle.record_model.specs.Past.{Past}use Rattle.record_model.specs.Quiet.{Quiet, idle_cut_is_due, is_idle}
+use Rattle.record_model.specs.Past.{Past}
+use Rattle.record_model.specs.Quiet.{Quiet, idle_cut_is_due, is_idle}
 use Rattle.run_config.specs.declared.config.Config.{Config}
-
 
 -- how many of these answers are connections that were made
 abbrev pub made : {A : Type 0} → List (Option A) → ℕ
