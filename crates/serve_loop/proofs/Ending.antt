@@ -8,10 +8,11 @@ use Rattle.px_outside.specs.Outside.{told_more}
 use Rattle.serve_loop.specs.declared.serving.Serving.{Serving}
 use Rattle.core_events.specs.Face.{Face}
 use Rattle.serve_loop.specs.Part.{stand}
-use Rattle.serve_loop.specs.Server.{Running, Turns, Done, Walked, IsOver, GoesOn, IsOverOr, Behind}
+use Rattle.serve_loop.specs.Server.{Running, Turns, Done, Marking, Walked, IsOver, GoesOn, IsOverOr, Behind}
 use Rattle.serve_loop.specs.Turn.{CanAccept}
 use Rattle.serve_loop.specs.Walk.{Walks, text_in}
 use Rattle.serve_loop.proofs.Compose.{made_nothing, made_then, text_append, walks_append}
+use Rattle.serve_loop.proofs.Unmarked.{none_behind, rounds_own, walks_unmarked}
 use Rattle.serve_loop.proofs.Walking.{rounds_walk}
 
 pub told_nothing : (o : Option (List ℕ)) → o ≡ told_more o []
@@ -28,8 +29,8 @@ pub turns_walk : {C S T : Type 0} (face : Face C) (did : S → Call → S → Ty
 unfolding made_nothing made_then
 turns_walk {C} {S} {T} face did gave ticked zero old new same ready none =
     let first = old.server.serving in
-    subst (λ (x : Running C S T). Done face did gave (Walks face first.conns) first x.server.serving old.net x.net old.written x.written) (sym same) (record {
-      made = made_nothing (Walks face first.conns) (stand first) old.net ready refl;
+    subst (λ (x : Running C S T). Done face did gave (Marking face first.conns []) first x.server.serving old.net x.net old.written x.written) (sym same) (record {
+      made = made_nothing (Marking face first.conns []) (stand first) old.net ready (refl, refl);
       told = told_nothing old.written;
       no_line_waits = none;
       conns = refl;
@@ -44,10 +45,12 @@ turns_walk {C} {S} {T} face did gave ticked (suc n) old new turns ready none =
     let a = stand old.server.serving in
     let b = stand mid.server.serving in
     let c = stand new.server.serving in
-    let walks = rounds_walk face turn.round mid.server.serving.conns b ys c two.made.leads in
+    let conns = mid.server.serving.conns in
+    let walks = rounds_walk face turn.round conns b ys c two.made.leads in
+    let none = walks_unmarked face conns ys b c walks (rounds_own face turn.round conns b ys c two.made.leads) in
     record {
-      made = made_then one.made two.made (walks_append face old.server.serving.conns xs ys a b c one.made.leads
-          (subst (λ (conns : ℕ). Walks face conns b ys c) one.conns walks));
+      made = made_then one.made two.made (walks_append face old.server.serving.conns xs ys a b c one.made.leads.0
+          (subst (λ (conns : ℕ). Walks face conns b ys c) one.conns walks), none_behind xs ys one.made.leads.1 none);
       told = two.told ∙ ap (λ (o : Option (List ℕ)). told_more o (text_in ys)) one.told ∙ told_then old.written (text_in xs) (text_in ys)
           ∙ ap (λ (text : List ℕ). told_more old.written text) (sym (text_append xs ys));
       no_line_waits = two.no_line_waits;

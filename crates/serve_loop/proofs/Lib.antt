@@ -15,6 +15,7 @@ pub mod Asking
 pub mod PendingTurns
 pub mod Pairs
 pub mod Walking
+pub mod Unmarked
 pub mod Breaking
 pub mod Losing
 pub mod Falling
@@ -22,3 +23,4 @@ pub mod Failing
 pub mod Ending
 pub mod Lines
 pub mod Stopping
+pub mod Marking

@@ -1,5 +1,5 @@
 -- In each turn what is pending is asked for, and all connections with something pending stay known.
-use Rattle.std.proofs.Common.{◌≡◌, ℕ, zero, suc, List, [], ◌++◌, Bool, nat_eq, inl, inr, sym, ap, subst, ◌∙◌, append_assoc}
+use Rattle.std.proofs.Common.{◌≡◌, ℕ, zero, suc, List, [], ◌++◌, Bool, Option, nat_eq, inl, inr, sym, ap, subst, ◌∙◌, append_assoc}
 use Rattle.std.specs.List.{list_any}
 use Rattle.px_outside.specs.declared.answers.ReadyAt.{ReadyAt}
 use Rattle.px_outside.specs.Net.{Call}
@@ -21,8 +21,8 @@ module _ {C : Type 0} (face : Face C) (laws : SendsInRuns face) where
     | inr x ↦ not_along face conns (λ call. Unit {0}) (Quiet face laws) (quiet_along face laws conns) _ a l b x
   ]
 
-  waits_quiet : (conns : ℕ) (slots links : List ℕ) (until : ℕ) (listed : List ReadyAt) → Covers (WaitsFor face conns slots links until listed) (Quiet face laws)
-  waits_quiet conns slots links until listed a l b it = record {
+  waits_quiet : (conns : ℕ) (slots links : List ℕ) (limit : Option ℕ) (until : ℕ) (listed : List ReadyAt) → Covers (WaitsFor face conns slots links limit until listed) (Quiet face laws)
+  waits_quiet conns slots links limit until listed a l b it = record {
     stands = λ s. subst (λ (z : Around C). face.stands z.core) (sym it.waits.same) s;
     before = λ s c side link p. subst (λ (z : Around C). PendingOn face z c side link) it.waits.same p;
   }
@@ -32,10 +32,10 @@ module _ {C : Type 0} (face : Face C) (laws : SendsInRuns face) where
   all_quiet conns = each_along face conns (λ call. Unit {0}) (Quiet face laws) (quiet_along face laws conns)
 
   -- a turn's parts up to its pairs
-  before_quiet : (conns now : ℕ) (slots links : List ℕ) (until : ℕ) (listed : List ReadyAt) → Covers (WaitsAndTicks face conns now slots links until listed) (Quiet face laws)
-  before_quiet conns now slots links until listed =
-      then_along face conns (λ call. Unit {0}) (Quiet face laws) (quiet_along face laws conns) (WaitsFor face conns slots links until listed) (Ticks face now)
-      (waits_quiet conns slots links until listed) (ticks_quiet conns now)
+  before_quiet : (conns now : ℕ) (slots links : List ℕ) (limit : Option ℕ) (until : ℕ) (listed : List ReadyAt) → Covers (WaitsAndTicks face conns now slots links limit until listed) (Quiet face laws)
+  before_quiet conns now slots links limit until listed =
+      then_along face conns (λ call. Unit {0}) (Quiet face laws) (quiet_along face laws conns) (WaitsFor face conns slots links limit until listed) (Ticks face now)
+      (waits_quiet conns slots links limit until listed) (ticks_quiet conns now)
 
   listeners_quiet : (conns : ℕ) (order stay : List ℕ) → Covers (Each (ListenerAt face conns) order stay) (Quiet face laws)
   listeners_quiet conns = all_quiet conns (ListenerAt face conns) (listener_along face conns (λ call. Unit {0}) (Quiet face laws) (quiet_along face laws conns) (λ at call on. tt))
@@ -59,7 +59,7 @@ module _ {C : Type 0} (face : Face C) (laws : SendsInRuns face) where
       let t1 = t.5 in
       let t2 = t1.5 in
       let t3 = t2.5 in
-      let q0 = before_quiet conns r.now r.slots r.links r.until r.listed a t.1 t.0 t.4 in
+      let q0 = before_quiet conns r.now r.slots r.links r.limit r.until r.listed a t.1 t.0 t.4 in
       let q1 = listeners_quiet conns (due_now r.slots (listed_slots r.listed)) r.slots_stay t.0 t1.1 t1.0 t1.4 in
       let q2 = links_quiet conns (due_now r.links (listed_links r.listed)) r.links_stay t1.0 t2.1 t2.0 t2.4 in
       let s0 = q0.stands s in

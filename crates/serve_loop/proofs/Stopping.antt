@@ -1,5 +1,5 @@
 -- A turn that met a fault, and all turns up to it.
-use Rattle.std.proofs.Common.{◌≡◌, ℕ, List, [], ◌++◌, Bool, true, false, Option, Some, None, inl, inr, refl, ap, sym, ◌∙◌, subst}
+use Rattle.std.proofs.Common.{◌≡◌, ℕ, List, [], ◌++◌, Bool, true, false, Option, Some, None, inl, inr, refl, ap, sym, ◌∙◌, subst, append_assoc}
 use Rattle.std.specs.Prelude.{Result, Ok, Err, OnOk, OnErr, IfErr}
 use Rattle.std.proofs.lemmas.List.{append-nil}
 use Rattle.px_outside.specs.Net.{Call}
@@ -8,29 +8,31 @@ use Rattle.serve_loop.specs.declared.fault.ServeFault.{ServeFault}
 use Rattle.serve_loop.specs.declared.fault.ServeFault.TheVariants as fault
 use Rattle.serve_loop.specs.declared.journal.Journal.{Journal}
 use Rattle.serve_loop.specs.declared.serving.Serving.{Serving}
-use Rattle.serve_loop.specs.Broken.{Unbegun}
+use Rattle.serve_loop.specs.Broken.{Unbegun, steps_of}
 use Rattle.serve_loop.specs.Events.{Grew, Tells, TellsFront}
 use Rattle.core_events.specs.Face.{Face}
-use Rattle.serve_loop.specs.Fallen.{AskedFor, FellAt, DoneSome, TurnSome, WalkedSome}
+use Rattle.serve_loop.specs.Fallen.{AskedFor, FellAt, DoneSome, TurnSome, WalkedSomeMarking}
+use Rattle.serve_loop.specs.Marked.{PoolMark, marks_in}
 use Rattle.serve_loop.specs.Faults.{FromNet, FromSink, FromNetOrSink, is_memory, is_not_net, turn_end}
 use Rattle.serve_loop.specs.Part.{stand, Ready, Part}
-use Rattle.serve_loop.specs.Server.{Round, BeginsAt, Rounds, Done, Running, Walked}
-use Rattle.serve_loop.specs.Walk.{Step, Walks, text_in}
+use Rattle.serve_loop.specs.Server.{Round, BeginsAt, Rounds, Done, Marking, Running, WalkedMarking}
+use Rattle.serve_loop.specs.Walk.{Step, text_in}
 use Rattle.serve_loop.proofs.Breaking.{breaks_off, breaks_behind, lines_behind}
 use Rattle.serve_loop.proofs.Ending.{told_then}
 use Rattle.serve_loop.proofs.Failing.{of_sink}
 use Rattle.serve_loop.proofs.Fresh.{once_none}
 use Rattle.serve_loop.proofs.Fronts.{tells_behind}
 use Rattle.serve_loop.proofs.Lines.{NoneWaits, wrote_ok, wrote_err}
+use Rattle.serve_loop.proofs.Unmarked.{broken_unmarked, marks_append, order_own, whole_own}
 use Rattle.serve_loop.proofs.Walking.{rounds_walk}
 
 -- ---- one turn
 
 -- all steps of a turn
-pub record WholeTurn {C S : Type 0} (face : Face C) (did : S → Call → S → Type 0) (gave : S → ℕ → Type 0) (now : ℕ) (slots links : List ℕ)
+pub record WholeTurn {C S : Type 0} (face : Face C) (did : S → Call → S → Type 0) (gave : S → ℕ → Type 0) (now : ℕ) (slots links : List ℕ) (limit : Option ℕ)
     (x y : Serving C) (n m : S) : Type 0 where
   pub round : Round
-  pub begins : BeginsAt round now slots links
+  pub begins : BeginsAt round now slots links limit
   pub part : Part face did gave (Rounds face round x.conns) x y n m
 
 -- how the writing of its lines ended
@@ -39,7 +41,7 @@ pub record Flushed (w : Result (Unit {0}) ServeFault) (j : Journal) (before afte
   pub err : OnErr w (AddsPrefix j.text before after)
   pub from : IfErr w (FromSink s s')
 
-module _ {C S T : Type 0} (face : Face C) (did : S → Call → S → Type 0) (gave : S → ℕ → Type 0) (ticked : T → ℕ → T → Type 0) (slots links : List ℕ)
+module _ {C S T : Type 0} (face : Face C) (did : S → Call → S → Type 0) (gave : S → ℕ → Type 0) (ticked : T → ℕ → T → Type 0) (slots links : List ℕ) (limit : Option ℕ)
     (old : Serving C) (begun : Journal) (y : Serving C) (last : Journal) (n m : S) (t u : T) (before after : Option (List ℕ))
     (none : old.journal.text ≡ [] → begun.text ≡ []) (untold : begun.recording ≡ false → before ≡ None) where
   abbrev First : Serving C
@@ -47,7 +49,7 @@ module _ {C S T : Type 0} (face : Face C) (did : S → Call → S → Type 0) (g
 
   abbrev Ends : ServeFault → Type 0
   Ends why = (moment : Option ℕ) × AskedFor ticked moment t u × (Ready face (gave n) (stand old) → old.journal.text ≡ []
-      → TurnSome face did gave why moment slots links old (record y { journal = last }) n m before after)
+      → TurnSome face did gave why moment slots links limit old (record y { journal = last }) n m before after)
 
   -- what was written of the lines that were written down
   abbrev Wrote : Bool → ServeFault → Type 0
@@ -55,7 +57,7 @@ module _ {C S T : Type 0} (face : Face C) (did : S → Call → S → Type 0) (g
       → TellsFront (Grew before after) (is_not_net why) lines
 
   -- where the turn is whole
-  whole : (why : ServeFault) → Wrote false why → (now : ℕ) × ticked t now u × WholeTurn face did gave now slots links First y n m → Ends why
+  whole : (why : ServeFault) → Wrote false why → (now : ℕ) × ticked t now u × WholeTurn face did gave now slots links limit First y n m → Ends why
   unfolding breaks_off breaks_behind
   whole why wrote (now, asked, turn) = (
     Some now,
@@ -87,7 +89,7 @@ module _ {C S T : Type 0} (face : Face C) (did : S → Call → S → Type 0) (g
 
   -- where it broke off
   broke : (why : ServeFault) (short : Bool) → (short ≡ true → why ≡ fault.Memory) → Wrote short why
-      → FellAt face did gave ticked slots links short First y n m t u → Ends why
+      → FellAt face did gave ticked slots links limit short First y n m t u → Ends why
   broke why short at wrote fell = (
     fell.moment,
     fell.asked,
@@ -104,8 +106,8 @@ module _ {C S T : Type 0} (face : Face C) (did : S → Call → S → Type 0) (g
         },
   )
 
-  pub fell_by : (a b s s' : ℕ) (r w : Result (Unit {0}) ServeFault) → OnOk r ((now : ℕ) × ticked t now u × WholeTurn face did gave now slots links First y n m)
-      → IfErr r (λ why. FellAt face did gave ticked slots links (is_memory why) First y n m t u) → IfErr r (FromNet a b)
+  pub fell_by : (a b s s' : ℕ) (r w : Result (Unit {0}) ServeFault) → OnOk r ((now : ℕ) × ticked t now u × WholeTurn face did gave now slots links limit First y n m)
+      → IfErr r (λ why. FellAt face did gave ticked slots links limit (is_memory why) First y n m t u) → IfErr r (FromNet a b)
       → Flushed w y.journal before after s s' → IfErr (turn_end r w) Ends
   fell_by a b s s' (Ok u) (Ok v) turn fallen from it = tt
   fell_by a b s s' (Ok u) (Err fault.Net) turn fallen from it = absurd it.from
@@ -144,22 +146,43 @@ fails_by a b s s' (Err fault.Write) w net sink = absurd net
 
 -- ---- all turns
 
--- whole turns, and the one that met the fault
-pub done_then : {C S : Type 0} {face : Face C} {did : S → Call → S → Type 0} {gave : S → ℕ → Type 0} {why : ServeFault} {x y z : Serving C} {n m k : S}
-    {before mid after : Option (List ℕ)} → Done face did gave (Walks face x.conns) x y n m before mid → DoneSome face did gave why y z m k mid after
-    → DoneSome face did gave why x z n k before after
+-- whole turns, and what met the fault
+pub done_then : {C S : Type 0} {face : Face C} {did : S → Call → S → Type 0} {gave : S → ℕ → Type 0} {why : ServeFault} {marks more : List PoolMark}
+    {x y z : Serving C} {n m k : S} {before mid after : Option (List ℕ)} → Done face did gave (Marking face x.conns marks) x y n m before mid
+    → (done : DoneSome face did gave why y z m k mid after) × (marks_in (done.walk.steps ++ steps_of done.walk.broken) ≡ more)
+    → (done : DoneSome face did gave why x z n k before after) × (marks_in (done.walk.steps ++ steps_of done.walk.broken) ≡ marks ++ more)
 unfolding breaks_behind
-done_then {why = why} {before = before} {mid} {after} one two =
-    let xs = one.made.steps in record {
-      short = two.short;
-      at_memory = two.at_memory;
-      walk = breaks_behind one.conns one.made one.made.leads two.walk;
-      lines = lines_behind (TellsFront (Grew before after) (is_not_net why)) xs two.walk.steps two.walk.broken
-          (tells_behind (text_in xs) (λ (text : List ℕ) (is : Grew mid after text).
-          is ∙ ap (λ (o : Option (List ℕ)). told_more o text) one.told ∙ told_then before (text_in xs) text) two.lines);
-    }
+done_then {why = why} {marks = marks} {more = more} {before = before} {mid} {after} one (two, are) =
+    let xs = one.made.steps in (
+      record {
+        short = two.short;
+        at_memory = two.at_memory;
+        walk = breaks_behind one.conns one.made one.made.leads.0 two.walk;
+        lines = lines_behind (TellsFront (Grew before after) (is_not_net why)) xs two.walk.steps two.walk.broken
+            (tells_behind (text_in xs) (λ (text : List ℕ) (is : Grew mid after text).
+            is ∙ ap (λ (o : Option (List ℕ)). told_more o text) one.told ∙ told_then before (text_in xs) text) two.lines);
+      },
+      ap marks_in (append_assoc xs two.walk.steps (steps_of two.walk.broken)) ∙ marks_append xs (two.walk.steps ++ steps_of two.walk.broken)
+      ∙ ap (λ (l : List PoolMark). l ++ marks_in (two.walk.steps ++ steps_of two.walk.broken)) one.made.leads.1
+      ∙ ap (λ (l : List PoolMark). marks ++ l) are,
+    )
 
-pub walked_some : {C S T : Type 0} (face : Face C) (did : S → Call → S → Type 0) (gave : S → ℕ → Type 0) (why : ServeFault) (old mid new : Running C S T)
-    → Walked face did gave old mid → WalkedSome face did gave why mid new → WalkedSome face did gave why old new
-walked_some face did gave why old mid new one two s none =
+pub walked_some : {C S T : Type 0} (face : Face C) (did : S → Call → S → Type 0) (gave : S → ℕ → Type 0) (why : ServeFault) (marks more : List PoolMark)
+    (old mid new : Running C S T) → WalkedMarking face did gave marks old mid → WalkedSomeMarking face did gave why more mid new
+    → WalkedSomeMarking face did gave why (marks ++ more) old new
+walked_some face did gave why marks more old mid new one two s none =
     let done = one s none in done_then done (two done.made.ready done.no_line_waits)
+
+-- a turn that met a fault gave no mark
+pub turn_unmarked : {C S : Type 0} (face : Face C) (did : S → Call → S → Type 0) (gave : S → ℕ → Type 0) (why : ServeFault) (moment : Option ℕ)
+    (slots links : List ℕ) (limit : Option ℕ) (old new : Serving C) (n m : S) (before after : Option (List ℕ))
+    → TurnSome face did gave why moment slots links limit old new n m before after
+    → (done : DoneSome face did gave why old new n m before after) × (marks_in (done.walk.steps ++ steps_of done.walk.broken) ≡ [])
+turn_unmarked face did gave why moment slots links limit old new n m before after it =
+    let walk = it.done.walk in (
+      it.done,
+      broken_unmarked face old.conns it.done.short (stand old) walk.mid walk.steps walk.broken new.core walk.walks walk.breaks (elim it.order [
+        | inl whole ↦ whole_own face old.conns moment slots links limit (stand old) walk.steps walk.mid walk.broken whole
+        | inr some ↦ order_own face old.conns moment slots links limit (stand old) (walk.steps ++ steps_of walk.broken) some
+      ]),
+    )

@@ -40,7 +40,7 @@ step_walks : {C : Type 0} (face : Face C) (conns : ℕ) (a : Around C) (l : List
     → Takes face conns a x b → Walks face conns a l b
 step_walks face conns a l b x is takes = subst (λ (y : List Step). Walks face conns a y b) (sym is) (b, takes, refl)
 
-own_walks : {C : Type 0} (face : Face C) (conns : ℕ) (e : Event) → IsOwn e → (a : Around C) (l : List Step) (b : Around C)
+pub own_walks : {C : Type 0} (face : Face C) (conns : ℕ) (e : Event) → IsOwn e → (a : Around C) (l : List Step) (b : Around C)
     → OwnStep face e a l b → Walks face conns a l b
 own_walks {C} face conns e own a l b it =
     step_walks face conns a l b (Own it.given) it.steps_are (
@@ -57,9 +57,9 @@ ticks_walks : {C : Type 0} (face : Face C) (conns now : ℕ) (a : Around C) (l :
 ticks_walks face conns now a l b it =
     elim it.ticks [ inl x ↦ own_walks face conns _ tt a l b x.1 | inr x ↦ none_walks face conns a l b x.none x.same ]
 
-pub waits_walks : {C : Type 0} (face : Face C) (conns : ℕ) (slots links : List ℕ) (until : ℕ) (listed : List ReadyAt) (a : Around C) (l : List Step)
-    (b : Around C) → WaitsFor face conns slots links until listed a l b → Walks face conns a l b
-waits_walks face conns slots links until listed a l b it =
+pub waits_walks : {C : Type 0} (face : Face C) (conns : ℕ) (slots links : List ℕ) (limit : Option ℕ) (until : ℕ) (listed : List ReadyAt) (a : Around C) (l : List Step)
+    (b : Around C) → WaitsFor face conns slots links limit until listed a l b → Walks face conns a l b
+waits_walks face conns slots links limit until listed a l b it =
     step_walks face conns a l b _ it.waits.waits (record { event = None; may = refl; links = a.links; after = refl; becomes = it.waits.same })
 
 -- ---- walks behind the wait
@@ -161,7 +161,7 @@ pub all_goes : {C : Type 0} (face : Face C) (w : Poll) (conns : ℕ) (order stay
     → Each (WorkAt face w conns) order stay a l b → Goes face conns a l b
 all_goes face w conns = each_along face conns AskCall (Goes face conns) (goes face conns) (WorkAt face w conns) (work_goes face w conns)
 
-asks_goes : {C : Type 0} (face : Face C) (r : Round) (conns : ℕ) (a : Around C) (l : List Step) (b : Around C) → AsksAll face r conns a l b
+pub asks_goes : {C : Type 0} (face : Face C) (r : Round) (conns : ℕ) (a : Around C) (l : List Step) (b : Around C) → AsksAll face r conns a l b
     → Goes face conns a l b
 asks_goes face r conns =
     then_goes face conns (Each (ListenerAt face conns) (due_now r.slots (listed_slots r.listed)) r.slots_stay) (AsksLinks face r conns)
@@ -171,14 +171,14 @@ asks_goes face r conns =
     (then_goes face conns (Ran face 2048 r.ready r.writers_were r.writers) (Each (WritesAt face conns) r.writers r.writers_stay)
     (ran_goes face conns 2048 r.ready r.writers_were r.writers) (all_goes face work.Writer conns _ _)))
 
-pub begin_walks : {C : Type 0} (face : Face C) (conns now : ℕ) (slots links : List ℕ) (until : ℕ) (listed : List ReadyAt) (a : Around C) (l : List Step)
-    (b : Around C) → WaitsAndTicks face conns now slots links until listed a l b → Walks face conns a l b
-begin_walks face conns now slots links until listed =
-    then_walks face conns (WaitsFor face conns slots links until listed) (Ticks face now) (waits_walks face conns slots links until listed)
+pub begin_walks : {C : Type 0} (face : Face C) (conns now : ℕ) (slots links : List ℕ) (limit : Option ℕ) (until : ℕ) (listed : List ReadyAt) (a : Around C) (l : List Step)
+    (b : Around C) → WaitsAndTicks face conns now slots links limit until listed a l b → Walks face conns a l b
+begin_walks face conns now slots links limit until listed =
+    then_walks face conns (WaitsFor face conns slots links limit until listed) (Ticks face now) (waits_walks face conns slots links limit until listed)
     (ticks_walks face conns now)
 
 pub rounds_walk : {C : Type 0} (face : Face C) (r : Round) (conns : ℕ) (a : Around C) (l : List Step) (b : Around C)
     → Rounds face r conns a l b → Walks face conns a l b
 rounds_walk face r conns =
-    then_walks face conns (WaitsAndTicks face conns r.now r.slots r.links r.until r.listed) (AsksAll face r conns)
-    (begin_walks face conns r.now r.slots r.links r.until r.listed) (λ a l b it. (asks_goes face r conns a l b it).0)
+    then_walks face conns (WaitsAndTicks face conns r.now r.slots r.links r.limit r.until r.listed) (AsksAll face r conns)
+    (begin_walks face conns r.now r.slots r.links r.limit r.until r.listed) (λ a l b it. (asks_goes face r conns a l b it).0)

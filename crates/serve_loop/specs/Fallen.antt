@@ -13,6 +13,7 @@ use Rattle.serve_loop.specs.Broken.{IsTick, IsWait, AtMostOne, AreAsks}
 use Rattle.serve_loop.specs.Events.{Grew, TellsFront}
 use Rattle.core_events.specs.Face.{Face}
 use Rattle.serve_loop.specs.Faults.{fault_of, is_not_net}
+use Rattle.serve_loop.specs.Marked.{PoolMark, marks_in}
 use Rattle.serve_loop.specs.Part.{Ready, stand}
 use Rattle.serve_loop.specs.Server.{Round, BeginsAt, Rounds}
 use Rattle.serve_loop.specs.Server.{Running, Turns, Behind, Walked, AsksInTurns, ListensTo}
@@ -20,10 +21,10 @@ use Rattle.serve_loop.specs.Turn.{WaitsFor, WaitsAndTicks, IsUntil, tick_limit}
 use Rattle.serve_loop.specs.Walk.{Around, Step, text_in}
 
 -- It met the fault in its wait, no longer than until something can be done.
-pub record FellWaiting {C : Type 0} (face : Face C) (conns : ℕ) (slots links : List ℕ)
+pub record FellWaiting {C : Type 0} (face : Face C) (conns : ℕ) (slots links : List ℕ) (limit : Option ℕ)
     (a : Around C) (all : List Step) : Type 0 where
   pub until : ℕ
-  pub is_until : IsUntil face conns a slots links until
+  pub is_until : IsUntil face conns a slots links limit until
   pub waits : AtMostOne (IsWait until) all
 
 -- a Tick of a moment above the present one, which met a fault
@@ -35,7 +36,7 @@ pub record FellTick {C : Type 0} (face : Face C) (now : ℕ) (a : Around C) (all
   pub tick : AtMostOne (IsTick now) all
 
 -- Or behind that in its Tick.
-pub record FellTicking {C : Type 0} (face : Face C) (conns now : ℕ) (slots links : List ℕ)
+pub record FellTicking {C : Type 0} (face : Face C) (conns now : ℕ) (slots links : List ℕ) (limit : Option ℕ)
     (a : Around C) (all : List Step) : Type 0 where
   pub waited : Around C
   pub wait : List Step
@@ -43,12 +44,12 @@ pub record FellTicking {C : Type 0} (face : Face C) (conns now : ℕ) (slots lin
   pub all_are : all ≡ wait ++ tick
   pub until : ℕ
   pub listed : List ReadyAt
-  pub waits : WaitsFor face conns slots links until listed a wait waited
+  pub waits : WaitsFor face conns slots links limit until listed a wait waited
   pub fell : FellTick face now waited tick
 
 -- Or behind that, where listeners and links are asked, what is ready goes on, and what is pending
 -- is written.
-pub record FellAsking {C : Type 0} (face : Face C) (conns now : ℕ) (slots links : List ℕ)
+pub record FellAsking {C : Type 0} (face : Face C) (conns now : ℕ) (slots links : List ℕ) (limit : Option ℕ)
     (a : Around C) (all : List Step) : Type 0 where
   pub ticked : Around C
   pub begin : List Step
@@ -56,23 +57,23 @@ pub record FellAsking {C : Type 0} (face : Face C) (conns now : ℕ) (slots link
   pub all_are : all ≡ begin ++ asks
   pub until : ℕ
   pub listed : List ReadyAt
-  pub begins : WaitsAndTicks face conns now slots links until listed a begin ticked
+  pub begins : WaitsAndTicks face conns now slots links limit until listed a begin ticked
   pub are_asks : AreAsks asks
 
 -- the steps of a turn up to where it broke off, in their order: in its wait, where the clock gave no
 -- moment; else behind its wait, at the moment that the clock gave
 abbrev pub InOrder : {C : Type 0} → Face C → (conns : ℕ) → (moment : Option ℕ)
-    → (slots links : List ℕ) → Around C → List Step → Type 0
-InOrder face conns None slots links a all = FellWaiting face conns slots links a all
-InOrder face conns (Some now) slots links a all = FellTicking face conns now slots links a all
-    ⊎ FellAsking face conns now slots links a all
+    → (slots links : List ℕ) → (limit : Option ℕ) → Around C → List Step → Type 0
+InOrder face conns None slots links limit a all = FellWaiting face conns slots links limit a all
+InOrder face conns (Some now) slots links limit a all = FellTicking face conns now slots links limit a all
+    ⊎ FellAsking face conns now slots links limit a all
 
 -- what was done of a turn at this moment, if the clock gave one, wherever the loop stood
 abbrev pub IsFallen : {C S : Type 0} → Face C → (S → Call → S → Type 0) → (S → ℕ → Type 0)
-    → (moment : Option ℕ) → (slots links : List ℕ) → (short : Bool) → (old new : Serving C)
+    → (moment : Option ℕ) → (slots links : List ℕ) → (limit : Option ℕ) → (short : Bool) → (old new : Serving C)
     → (net net' : S) → Type 0
-IsFallen face did gave moment slots links short old new net net' =
-    IsBroken face did gave (InOrder face old.conns moment slots links (stand old)) short
+IsFallen face did gave moment slots links limit short old new net net' =
+    IsBroken face did gave (InOrder face old.conns moment slots links limit (stand old)) short
     old new net net'
 
 -- the clock was asked for this moment, once, or not at all
@@ -82,20 +83,20 @@ AskedFor ticked (Some now) clock clock' = ticked clock now clock'
 
 -- What was done of a turn: where it met the fault in its wait, the clock wasn't asked.
 pub record FellAt {C S T : Type 0} (face : Face C) (did : S → Call → S → Type 0)
-    (gave : S → ℕ → Type 0) (ticked : T → ℕ → T → Type 0) (slots links : List ℕ) (short : Bool)
+    (gave : S → ℕ → Type 0) (ticked : T → ℕ → T → Type 0) (slots links : List ℕ) (limit : Option ℕ) (short : Bool)
     (old new : Serving C) (net net' : S) (clock clock' : T) : Type 0 where
   pub moment : Option ℕ
   pub asked : AskedFor ticked moment clock clock'
-  pub fallen : IsFallen face did gave moment slots links short old new net net'
+  pub fallen : IsFallen face did gave moment slots links limit short old new net net'
 
 -- or all steps of a turn, where only the writing of their lines failed
 pub record WholeRound {C : Type 0} (face : Face C) (conns : ℕ) (moment : Option ℕ)
-    (slots links : List ℕ) (a : Around C) (steps : List Step) (b : Around C) (broken : Broken)
+    (slots links : List ℕ) (limit : Option ℕ) (a : Around C) (steps : List Step) (b : Around C) (broken : Broken)
     : Type 0 where
   pub now : ℕ
   pub moment_is : moment ≡ Some now
   pub round : Round
-  pub begins : BeginsAt round now slots links
+  pub begins : BeginsAt round now slots links limit
   pub rounds : Rounds face round conns a steps b
   pub none_broken : broken ≡ Unbegun
 
@@ -112,12 +113,12 @@ pub record DoneSome {C : Type 0} (face : Face C) {S : Type 0} (did : S → Call 
 
 -- in the order of a turn at this moment, if the clock gave one
 pub record TurnSome {C : Type 0} (face : Face C) {S : Type 0} (did : S → Call → S → Type 0)
-    (gave : S → ℕ → Type 0) (why : ServeFault) (moment : Option ℕ) (slots links : List ℕ)
+    (gave : S → ℕ → Type 0) (why : ServeFault) (moment : Option ℕ) (slots links : List ℕ) (limit : Option ℕ)
     (old new : Serving C) (net net' : S) (before after : Option (List ℕ)) : Type 0 where
   pub done : DoneSome face did gave why old new net net' before after
-  pub order : WholeRound face old.conns moment slots links (stand old)
+  pub order : WholeRound face old.conns moment slots links limit (stand old)
       done.walk.steps done.walk.mid done.walk.broken
-      ⊎ InOrder face old.conns moment slots links (stand old)
+      ⊎ InOrder face old.conns moment slots links limit (stand old)
       (done.walk.steps ++ steps_of done.walk.broken)
 
 -- A turn that met a fault: one moment was asked for behind its wait, or none where the wait failed,
@@ -129,16 +130,22 @@ pub record Fell {C S T : Type 0} (face : Face C) (did : S → Call → S → Typ
   pub asked : AskedFor ticked moment old.clock new.clock
   pub turn : Ready face (gave old.net) (stand old.server.serving)
       → old.server.serving.journal.text ≡ []
-      → TurnSome face did gave why moment old.server.slots old.server.links
+      → TurnSome face did gave why moment old.server.slots old.server.links old.server.limit
       old.server.serving new.server.serving old.net new.net old.written new.written
 
--- all steps of all turns, those of the one that met the fault among them
+-- all steps of all turns, those of the one that met the fault among them; their marks are these
+abbrev pub WalkedSomeMarking : {C S T : Type 0} → Face C → (S → Call → S → Type 0)
+    → (S → ℕ → Type 0) → ServeFault → List PoolMark → Running C S T → Running C S T → Type 0
+WalkedSomeMarking face did gave why marks old new =
+    Ready face (gave old.net) (stand old.server.serving) → old.server.serving.journal.text ≡ []
+    → (done : DoneSome face did gave why old.server.serving new.server.serving
+    old.net new.net old.written new.written)
+    × (marks_in (done.walk.steps ++ steps_of done.walk.broken) ≡ marks)
+
+-- with no mark
 abbrev pub WalkedSome : {C S T : Type 0} → Face C → (S → Call → S → Type 0) → (S → ℕ → Type 0)
     → ServeFault → Running C S T → Running C S T → Type 0
-WalkedSome face did gave why old new =
-    Ready face (gave old.net) (stand old.server.serving) → old.server.serving.journal.text ≡ []
-    → DoneSome face did gave why old.server.serving new.server.serving
-    old.net new.net old.written new.written
+WalkedSome face did gave why old new = WalkedSomeMarking face did gave why [] old new
 
 -- Fewer turns than all were made, behind each of which it went on, and the next one met a fault.
 -- What those did is exact, and their lines stand in the journal.

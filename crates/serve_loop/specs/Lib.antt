@@ -15,3 +15,5 @@ pub mod Broken
 pub mod Fallen
 pub mod Pending
 pub mod Server
+pub mod Marked
+pub mod Marks

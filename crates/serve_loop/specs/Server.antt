@@ -20,16 +20,18 @@ use Rattle.serve_loop.specs.Pending.{AllAmong, IsWrite, PendingOn, SendsInRuns, 
 use Rattle.serve_loop.specs.Running.{Ran}
 use Rattle.serve_loop.specs.Turn.{WaitsAndTicks, CanAccept, listed_slots, listed_links, due_now}
 use Rattle.serve_loop.specs.Turn.{ListenerAt, LinkAt, WritesAt}
+use Rattle.serve_loop.specs.Marked.{PoolMark, marks_in}
 use Rattle.serve_loop.specs.Walk.{Around, Step, Walks, text_in, Then}
 
--- what a turn found and left: the moment behind its wait, which listeners and links were due, how
--- long it waited, what was listed, which listeners and links stay due, whether something is ready, on
+-- what a turn found and left: the moment behind its wait, which listeners and links were due, until
+-- when it might wait and until when it did, what was listed, which listeners and links stay due, whether something is ready, on
 -- which connections something was pending, to which it wrote, those and all that ran, and on which
 -- something is pending still
 pub record Round : Type 0 where
   pub now : ℕ
   pub slots : List ℕ
   pub links : List ℕ
+  pub limit : Option ℕ
   pub until : ℕ
   pub listed : List ReadyAt
   pub slots_stay : List ℕ
@@ -61,35 +63,38 @@ AsksAll face r conns a steps b =
 -- the five things of a turn, in order
 abbrev pub Rounds : {C : Type 0} → Face C → Round → ℕ → Around C → List Step → Around C → Type 0
 Rounds face r conns a steps b =
-    Then (WaitsAndTicks face conns r.now r.slots r.links r.until r.listed) (AsksAll face r conns)
+    Then (WaitsAndTicks face conns r.now r.slots r.links r.limit r.until r.listed)
+    (AsksAll face r conns)
     a steps b
 
 -- the wait and the Tick of a turn, and until when it waited
 pub record Waited {C : Type 0} (face : Face C) {S : Type 0} (did : S → Call → S → Type 0)
-    (gave : S → ℕ → Type 0) (now : ℕ) (slots links : List ℕ) (listed : List ReadyAt)
-    (old new : Serving C) (net net' : S) : Type 0 where
+    (gave : S → ℕ → Type 0) (now : ℕ) (slots links : List ℕ) (limit : Option ℕ)
+    (listed : List ReadyAt) (old new : Serving C) (net net' : S) : Type 0 where
   pub until : ℕ
-  pub part : Part face did gave (WaitsAndTicks face old.conns now slots links until listed)
+  pub part : Part face did gave (WaitsAndTicks face old.conns now slots links limit until listed)
       old new net net'
 
--- It was at this moment, with these listeners and links due from before.
-pub record BeginsAt (r : Round) (now : ℕ) (slots links : List ℕ) : Type 0 where
+-- It was at this moment, with these listeners and links due from before, and this limit of its wait.
+pub record BeginsAt (r : Round) (now : ℕ) (slots links : List ℕ) (limit : Option ℕ) : Type 0 where
   pub now_is : r.now ≡ now
   pub slots_were : r.slots ≡ slots
   pub links_were : r.links ≡ links
+  pub limit_was : r.limit ≡ limit
 
 -- what it found pending and left due and pending
 pub record Leaves {C : Type 0} (r : Round) (old new : Server C) : Type 0 where
   pub writers_were : r.writers_were ≡ old.writers
   pub slots_are : new.slots ≡ r.slots_stay
   pub links_are : new.links ≡ r.links_stay
+  pub limit_is : new.limit ≡ old.limit
   pub writers_are : new.writers ≡ added [] r.writers_stay
 
 -- one turn at this moment of the clock
 pub record Turned {C : Type 0} (face : Face C) {S : Type 0} (did : S → Call → S → Type 0)
     (gave : S → ℕ → Type 0) (now : ℕ) (old new : Server C) (net net' : S) : Type 0 where
   pub round : Round
-  pub begins : BeginsAt round now old.slots old.links
+  pub begins : BeginsAt round now old.slots old.links old.limit
   pub part : Part face did gave (Rounds face round old.serving.conns)
       old.serving new.serving net net'
   pub leaves : Leaves round old new
@@ -108,7 +113,7 @@ pub record OneTurn {C : Type 0} (face : Face C) {S : Type 0} (did : S → Call �
     (gave : S → ℕ → Type 0) (now : ℕ) (old new : Server C) (net net' : S)
     (before after : Option (List ℕ)) : Type 0 where
   pub round : Round
-  pub begins : BeginsAt round now old.slots old.links
+  pub begins : BeginsAt round now old.slots old.links old.limit
   pub done : Ready face (gave net) (stand old.serving) → old.serving.journal.text ≡ []
       → Done face did gave (Rounds face round old.serving.conns)
       old.serving new.serving net net' before after
@@ -159,14 +164,24 @@ abbrev pub EndsAs : {C : Type 0} → Face C → (turns made : ℕ) → Serving C
 EndsAs face turns made s ending.Conns = (0 < made) × ((made ≤ turns) × IsOver face s)
 EndsAs face turns made s ending.Turns = (made ≡ turns) × Behind face made s
 
+-- a walk with exactly these marks
+abbrev pub Marking : {C : Type 0} → Face C → ℕ → List PoolMark → Around C → List Step → Around C
+    → Type 0
+Marking face conns marks a steps b = Walks face conns a steps b × (marks_in steps ≡ marks)
+
 -- All steps of all turns: where a server began ready and no line waited, their calls are the net's,
--- in order, their events' lines were written, and each link was given once.
+-- in order, their events' lines were written, and each link was given once. Their marks are these.
+abbrev pub WalkedMarking : {C S T : Type 0} → Face C → (S → Call → S → Type 0)
+    → (S → ℕ → Type 0) → List PoolMark → Running C S T → Running C S T → Type 0
+WalkedMarking face did gave marks old new =
+    Ready face (gave old.net) (stand old.server.serving) → old.server.serving.journal.text ≡ []
+    → Done face did gave (Marking face old.server.serving.conns marks)
+    old.server.serving new.server.serving old.net new.net old.written new.written
+
+-- with no mark
 abbrev pub Walked : {C S T : Type 0} → Face C → (S → Call → S → Type 0) → (S → ℕ → Type 0)
     → Running C S T → Running C S T → Type 0
-Walked face did gave old new =
-    Ready face (gave old.net) (stand old.server.serving) → old.server.serving.journal.text ≡ []
-    → Done face did gave (Walks face old.server.serving.conns) old.server.serving new.server.serving
-    old.net new.net old.written new.written
+Walked face did gave old new = WalkedMarking face did gave [] old new
 
 -- A turn ends with writes, behind all events of its own. Each link that is open then and to which
 -- something is pending still was asked in these writes until it took no more: to any other that had
@@ -232,6 +247,7 @@ pub record Begins {C : Type 0} (face : Face C) {S : Type 0} (did : S → Call �
   pub no_line_waits : server.serving.journal.text ≡ []
   pub none_due : (server.slots ≡ []) × (server.links ≡ [])
   pub none_pending : server.writers ≡ []
+  pub no_limit : server.limit ≡ None
 
 -- the listeners of a core
 pub record ListensAll {C : Type 0} (face : Face C) {S : Type 0} (did : S → Call → S → Type 0)

@@ -1,6 +1,6 @@
 -- One turn of the loop, and its parts in their order.
 use Rattle.std.specs.Prelude.{◌≡◌, ◌⊎◌, ℕ, ◌<◌, ◌≤◌, ◌^◌, List, [], ◌∷◌, Bool, true, false, min}
-use Rattle.std.specs.Prelude.{Some, None, Ok}
+use Rattle.std.specs.Prelude.{Option, Some, None, Ok}
 use Rattle.px_bytes.specs.declared.addr.Side.TheVariants.{Client, Server}
 use Rattle.px_outside.specs.declared.answers.ReadyAt.{ReadyAt}
 use Rattle.px_outside.specs.declared.answers.ReadyAt.TheVariants as ready
@@ -76,22 +76,34 @@ IsQuiet face conns a (s ∷ slots) links = face.settled a.core true
 
 -- It waits for no time where something can be done, else until something is due by time alone. Both
 -- are the core's answers as the turn found it, at the moment of the Tick before.
-abbrev pub IsUntil : {C : Type 0} → Face C → ℕ → Around C → (slots links : List ℕ) → ℕ → Type 0
-IsUntil face conns a slots links until =
+abbrev pub IsOwnUntil : {C : Type 0} → Face C → ℕ → Around C → (slots links : List ℕ) → ℕ → Type 0
+IsOwnUntil face conns a slots links until =
     (IsBusy face conns a slots links × face.moment a.core until)
     ⊎ (IsQuiet face conns a slots links × face.due a.core until)
 
+-- the earlier of this moment and a limit, if there is one
+abbrev pub earlier : ℕ → Option ℕ → ℕ
+earlier own None = own
+earlier own (Some limit) = min own limit
+
+-- and no longer than up to the limit that was set
+abbrev pub IsUntil : {C : Type 0} → Face C → ℕ → Around C → (slots links : List ℕ)
+    → (limit : Option ℕ) → ℕ → Type 0
+IsUntil face conns a slots links limit until =
+    (own : ℕ) × IsOwnUntil face conns a slots links own × (until ≡ earlier own limit)
+
 -- one wait, no longer than until something can be done
-pub record WaitsFor {C : Type 0} (face : Face C) (conns : ℕ) (slots links : List ℕ) (until : ℕ)
-    (listed : List ReadyAt) (a : Around C) (steps : List Step) (b : Around C) : Type 0 where
-  pub is_until : IsUntil face conns a slots links until
+pub record WaitsFor {C : Type 0} (face : Face C) (conns : ℕ) (slots links : List ℕ)
+    (limit : Option ℕ) (until : ℕ) (listed : List ReadyAt) (a : Around C) (steps : List Step)
+    (b : Around C) : Type 0 where
+  pub is_until : IsUntil face conns a slots links limit until
   pub waits : Waits until listed a steps b
 
 -- and then the Tick, so that what is listed comes at the moment behind the wait
 abbrev pub WaitsAndTicks : {C : Type 0} → Face C → (conns now : ℕ) → (slots links : List ℕ)
-    → (until : ℕ) → List ReadyAt → Around C → List Step → Around C → Type 0
-WaitsAndTicks face conns now slots links until listed a steps b =
-    Then (WaitsFor face conns slots links until listed) (Ticks face now) a steps b
+    → (limit : Option ℕ) → (until : ℕ) → List ReadyAt → Around C → List Step → Around C → Type 0
+WaitsAndTicks face conns now slots links limit until listed a steps b =
+    Then (WaitsFor face conns slots links limit until listed) (Ticks face now) a steps b
 
 -- the listeners and the links of what a wait listed
 abbrev pub listed_slots : List ReadyAt → List ℕ

@@ -154,11 +154,12 @@ pub record Calls {C : Type 0} (face : Face C) (conns : ℕ) (a : Around C) (call
   pub after : AfterCall face a call links
   pub becomes : Becomes face event (record { core = a.core; links = links }) given b
 
--- the moment is set, a connection goes on, a call is answered
+-- the moment is set, a connection goes on, a call is answered, a member is marked
 abbrev pub IsOwn : Event → Type 0
 IsOwn (event.Tick moment) = Unit {0}
 IsOwn event.Run = Unit {0}
 IsOwn event.Turn = Unit {0}
+IsOwn (event.Mark pool member up) = Unit {0}
 IsOwn other = ⊥
 
 abbrev pub Takes : {C : Type 0} → Face C → ℕ → Around C → Step → Around C → Type 0

@@ -47,6 +47,7 @@ impl<C: EventCore + Drop> Server<C> {
             slots: Seq::new(alloc),
             links: Seq::new(alloc),
             writers: Numbers::new(alloc),
+            limit: None,
             listed: ReadyList::new(alloc),
             room,
         })

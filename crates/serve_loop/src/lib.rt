@@ -11,6 +11,7 @@ mod fault;
 mod journal;
 mod link_owner;
 mod links;
+mod marks;
 mod numbers;
 mod often;
 mod poll;

@@ -17,6 +17,8 @@ pub struct Server<C> {
     pub(crate) links: Seq<u32>,
     /// The connections on which something may be pending.
     pub(crate) writers: Numbers,
+    /// When the next wait ends at the latest, if that was said.
+    pub(crate) limit: Option<u64>,
     /// What the last wait listed.
     pub(crate) listed: ReadyList,
     /// Where a read puts its bytes.

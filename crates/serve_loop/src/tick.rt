@@ -3,7 +3,7 @@
 ghost use Rattle.std.specs.Prelude.{◌≡◌, ℕ, OnOk, min, IfErr, ◌≤◌};
 ghost use Rattle.serve_loop.specs.Server.{IsOverOr, Waited};
 ghost use Rattle.serve_loop.specs.Part.{Part, stand};
-ghost use Rattle.serve_loop.specs.Turn.{Ticks, Waits, IsUntil, tick_limit};
+ghost use Rattle.serve_loop.specs.Turn.{Ticks, Waits, IsOwnUntil, earlier, tick_limit};
 ghost use Rattle.serve_loop.specs.Turn.{AnyAsks, CanAccept, CanAsk};
 ghost use Rattle.serve_loop.specs.Broken.{AtMostOne, IsBroken, IsWait};
 ghost use Rattle.serve_loop.specs.Fallen.{FellAt, FellTick};
@@ -38,8 +38,8 @@ impl<C: EventCore + Drop> Serving<C> {
         Ok(())
     }
 
-    /// Waits until something may be ready, where these listeners and links are due, and then gives
-    /// the core the moment of the clock, so that what the wait brings comes at this moment. Where
+    /// Waits until something may be ready, where these listeners and links are due, and no longer
+    /// than up to the limit, if there is one. Then it gives the core the moment of the clock, so that what the wait brings comes at this moment. Where
     /// the wait fails the clock isn't asked.
     #[tactic(auto, using(crate::proofs::Failing::from_later, crate::proofs::Failing::from_memory))]
     pub(crate) fn wait_and_tick<N: Net, T: Clock>(
@@ -48,18 +48,19 @@ impl<C: EventCore + Drop> Serving<C> {
         clock: &mut T,
         slots: &Seq<u32>,
         links: &Seq<u32>,
+        limit: Option<u64>,
         listed: &mut ReadyList,
     ) -> Result<(), ServeFault>
         ensures waited { OnOk result ((now : ℕ) × T.gave clock.old now clock.new
-            × Waited C.face N.did N.gave now slots.now links.now listed.new
+            × Waited C.face N.did N.gave now slots.now links.now limit listed.new
             self.old self.new net.old net.new) }
-        ensures fell { IfErr result (λ why. FellAt C.face N.did N.gave T.gave slots.now links.now
+        ensures fell { IfErr result (λ why. FellAt C.face N.did N.gave T.gave slots.now links.now limit
             (is_memory why) self.old self.new net.old net.new clock.old clock.new) }
         ensures fails { IfErr result (FromNet (N.faults net.old) (N.faults net.new)) }
         ensures faults_never_fall { N.faults net.old ≤ N.faults net.new }
         ensures clock_faults_never_fall { T.faults clock.old ≤ T.faults clock.new }
     {
-        let until = self.until(slots.as_slice(), links.as_slice());
+        let until = earlier(self.until(slots.as_slice(), links.as_slice()), limit);
         self.wait(net, until, listed)?;
         let now = clock.now();
         self.tick(net, now)?;
@@ -85,9 +86,9 @@ impl<C: EventCore + Drop> Serving<C> {
         Ok(())
     }
 
-    /// Until when to wait, where these listeners and links are due.
+    // Until when nothing can be done, where these listeners and links are due.
     fn until(&self, slots: &[u32], links: &[u32]) -> u64
-        ensures { IsUntil C.face self.now.conns (stand self.now) slots.now links.now result }
+        ensures { IsOwnUntil C.face self.now.conns (stand self.now) slots.now links.now result }
     {
         if !self.core.settled() {
             return self.core.moment();
@@ -146,6 +147,15 @@ impl<C: EventCore + Drop> Serving<C> {
                 self.core.wants(row.conn, row.side) > 0
             }
         }
+    }
+}
+
+fn earlier(own: u64, limit: Option<u64>) -> u64
+    ensures { result ≡ earlier own limit }
+{
+    match limit {
+        None => own,
+        Some(limit) => own.min(limit),
     }
 }
 

@@ -52,14 +52,14 @@ impl<C: EventCore + Drop> Server<C> {
         ensures turned { OnOk result ((now : ℕ) × T.gave clock.old now clock.new
             × Turned C.face N.did N.gave now self.old self.new net.old net.new) }
         ensures fell { IfErr result (λ why. FellAt C.face N.did N.gave T.gave self.old.slots
-            self.old.links (is_memory why) self.old.serving self.new.serving net.old net.new
+            self.old.links self.old.limit (is_memory why) self.old.serving self.new.serving net.old net.new
             clock.old clock.new) }
         ensures fails { IfErr result (FromNet (N.faults net.old) (N.faults net.new)) }
         ensures faults_never_fall { N.faults net.old ≤ N.faults net.new }
         ensures clock_faults_never_fall { T.faults clock.old ≤ T.faults clock.new }
     {
         self.serving
-            .wait_and_tick(net, clock, &self.slots, &self.links, &mut self.listed)?;
+            .wait_and_tick(net, clock, &self.slots, &self.links, self.limit, &mut self.listed)?;
         let alloc = self.serving.alloc;
         let slots = due_slots(alloc, &self.slots, &self.listed)?;
         let links = due_links(alloc, &self.links, &self.listed)?;

@@ -1,10 +1,10 @@
-use Rattle.std.proofs.Common.{◌≡◌, ◌≤◌, ◌<◌, ◌+◌, refl, arith}
+use Rattle.std.proofs.Common.{◌≡◌, ◌≤◌, ◌<◌, ◌+◌, [], refl, arith}
 use Rattle.serve_loop.specs.Server.{running}
 use Rattle.serve_loop.proofs.Turning.{turns_next}
 use Rattle.serve_loop.proofs.Ending.{turns_walk, goes_on, ends_over, behind_next}
 use Rattle.serve_loop.proofs.Exits.{at_fault}
 use Rattle.serve_loop.proofs.PendingTurns.{turns_ask}
-use Rattle.serve_loop.proofs.Stopping.{walked_some}
+use Rattle.serve_loop.proofs.Stopping.{turn_unmarked, walked_some}
 use Rattle.serve_loop.proofs.turns.serve.Goals as goal
 
 pub loop-turn-init : goal.loop-turn-init
@@ -75,5 +75,6 @@ returns-in_err-turn-clause-stopped g c =
       walked = walked;
       asks_pending = turns_ask g.C.EventCore.face g.N.Net.did g.N.Net.gave g.T.Clock.gave c.loop-turn.turn old mid c.loop-turn.invariant.0;
       fell = c.in_err-turn.ensures.fell;
-      all = walked_some g.C.EventCore.face g.N.Net.did g.N.Net.gave why old mid new walked (λ s none. (c.in_err-turn.ensures.fell.turn s none).done);
+      all = walked_some g.C.EventCore.face g.N.Net.did g.N.Net.gave why [] [] old mid new walked
+          (λ s none. turn_unmarked g.C.EventCore.face g.N.Net.did g.N.Net.gave why _ _ _ _ _ _ _ _ _ _ (c.in_err-turn.ensures.fell.turn s none));
     })

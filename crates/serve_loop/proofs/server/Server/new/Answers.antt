@@ -18,6 +18,7 @@ returns-clause-begins g c =
       no_line_waits = c.new-3.ensures;
       none_due = (c.new-4.ensures, c.new-5.ensures);
       none_pending = c.new-6.ensures;
+      no_limit = refl;
     }
 
 pub returns-in_err-listen_all-clause-broke : goal.returns-in_err-listen_all-clause-broke

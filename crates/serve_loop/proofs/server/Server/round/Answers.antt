@@ -22,6 +22,7 @@ returns-clause-turned g c =
       now = begun.0;
       slots = c.args.self.now.slots;
       links = c.args.self.now.links;
+      limit = c.args.self.now.limit;
       until = waited.until;
       listed = c.wait_and_tick.new.listed;
       slots_stay = c.each.new.stay;
@@ -35,7 +36,7 @@ returns-clause-turned g c =
       begun.1,
       record {
         round = r;
-        begins = record { now_is = refl; slots_were = refl; links_were = refl };
+        begins = record { now_is = refl; slots_were = refl; links_were = refl; limit_was = refl };
         part = part_next (λ (conns : ℕ). AsksAll face r conns) waited.part
             (part_next (λ (conns : ℕ). AsksLinks face r conns) (rw c.in_ok-slots.ensures at c.in_ok-each.ensures.part)
             (part_next (λ (conns : ℕ). RunsAndWrites face r conns) (rw c.in_ok-links.ensures at c.in_ok-each-2.ensures.part)
@@ -44,6 +45,7 @@ returns-clause-turned g c =
           writers_were = refl;
           slots_are = refl;
           links_are = refl;
+          limit_is = refl;
           writers_are = c.in_ok-add_all.ensures ∙ ap (λ (l : List ℕ). added l c.as_slice.result.now) c.clear.ensures
               ∙ ap (λ (l : List ℕ). added [] l) c.as_slice.ensures;
         };

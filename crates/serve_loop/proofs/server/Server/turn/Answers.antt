@@ -26,6 +26,7 @@ returns-clause-turned g c =
           writers_were = t.2.leaves.writers_were;
           slots_are = t.2.leaves.slots_are;
           links_are = t.2.leaves.links_are;
+          limit_is = t.2.leaves.limit_is;
           writers_are = t.2.leaves.writers_are;
         };
       },
@@ -45,7 +46,7 @@ returns-clause-fell g c =
     let begun : Journal = record j { recording = c.keeps-self.result } in
     rw c.turn_end.ensures (IfErr-weaker (turn_end c.round-done.result c.flush-written.result) _ _
     (λ why fell. record { moment = fell.0; asked = fell.1; turn = fell.2 })
-    (fell_by g.C.EventCore.face g.N.Net.did g.N.Net.gave g.T.Clock.gave old.slots old.links
+    (fell_by g.C.EventCore.face g.N.Net.did g.N.Net.gave g.T.Clock.gave old.slots old.links old.limit
     old.serving begun c.round-done.new.self.serving c.flush-written.new.self c.args.net.now c.round-done.new.net
     c.args.clock.now c.round-done.new.clock before after
     (λ none. none) c.keeps-self.ensures.untold
