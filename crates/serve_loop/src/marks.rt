@@ -7,6 +7,7 @@ ghost use Rattle.serve_loop.specs.Faults.{FromNet, FromNetOrSink, is_memory};
 ghost use Rattle.serve_loop.specs.Marks.{IsEvent, MarkFell, MarkGiven};
 ghost use Rattle.serve_loop.specs.Part.{Part};
 ghost use Rattle.serve_loop.specs.Running.{OwnStep};
+ghost use Rattle.serve_loop.specs.Server.{IsOverOr};
 
 use crate::ServeFault;
 use crate::fault::turn_end;
@@ -22,6 +23,13 @@ impl<C: EventCore + Drop> Server<C> {
         ensures { C.face.moment self.now.serving.core result }
     {
         self.serving.core.moment()
+    }
+
+    /// Whether as many connections were accepted as may be, and none is live.
+    pub fn is_over(&self) -> bool
+        ensures { IsOverOr C.face self.now.serving result }
+    {
+        self.serving.is_over()
     }
 
     /// From now on each wait ends at this moment at the latest.
