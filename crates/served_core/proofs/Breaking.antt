@@ -13,8 +13,9 @@ use Rattle.proxy_core.specs.Scheduler.{State, no_connections}
 use Rattle.run_config.specs.declared.config.Config.{Config}
 use Rattle.proxy_core.specs.declared.core_state.Core.{Core}
 use Rattle.serve_loop.specs.Broken.{Broken, Unbegun, Ungiven, OwnSome, AskedSome, Breaks, steps_of}
-use Rattle.serve_loop.specs.Fallen.{WalkedSome}
+use Rattle.serve_loop.specs.Fallen.{WalkedSomeMarking}
 use Rattle.serve_loop.specs.Faults.{FromSink}
+use Rattle.serve_loop.specs.Marked.{PoolMark}
 use Rattle.serve_loop.specs.Part.{stand}
 use Rattle.serve_loop.specs.Server.{Running}
 use Rattle.serve_loop.specs.Walk.{Around, Step, Own, Asked}
@@ -78,12 +79,13 @@ front_more past s Client c n pieces more p m =
 front_more past s Server c n pieces more p m = ap (λ (l : List ℕ). l ++ more) p ∙ ap (λ (l : List ℕ). taken past s Server c ++ l) m
 
 pub kept_some : {S T : Type 0} {did : S → Call → S → Type 0} {gave : S → ℕ → Type 0} {why : ServeFault} {C : Config} {conns : ℕ} {net : S}
-    (start : Starts did C conns net) (clock : T) (before : Option (List ℕ)) (new : Running Core S T)
-    → WalkedSome core_face did gave why (started start clock before) new → EventsSome did gave C why (started start clock before) new
+    (start : Starts did C conns net) (clock : T) (before : Option (List ℕ)) (marks : List PoolMark) (new : Running Core S T)
+    → WalkedSomeMarking core_face did gave why marks (started start clock before) new → EventsSome did gave C why marks (started start clock before) new
 unfolding keeps_by
-kept_some {gave = gave} {C = C} start clock before new walked =
+kept_some {gave = gave} {C = C} start clock before marks new walked =
     let here = begins_with (gave start.begun) start in
-    let done = walked here.1 start.begins.no_line_waits in
+    let both = walked here.1 start.begins.no_line_waits in
+    let done = both.0 in
     let first = start.server.serving in
     let core = new.server.serving.core in
     let walk = done.walk in
@@ -101,6 +103,7 @@ kept_some {gave = gave} {C = C} start clock before new walked =
       done = done;
       steps = all;
       steps_are = refl;
+      marked = both.1;
       keeps = keeps_by C all core past;
       ungiven = λ side c.
           let more = ungiven_by C first.conns done.short walk.broken (past_after all []) past.state walk.mid core walk.breaks past.represents side c in (

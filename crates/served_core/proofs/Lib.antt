@@ -6,3 +6,5 @@ pub mod Breaking
 pub mod Fronts
 pub mod Risen
 pub mod SendsInRuns
+pub mod Members
+pub mod Watching

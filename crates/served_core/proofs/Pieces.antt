@@ -173,7 +173,7 @@ own_quiet (told.ServerTook d n) own = absurd own
 own_quiet (told.Tick moment) own = (λ c. refl, λ c. refl)
 own_quiet told.Turn own = (λ c. refl, λ c. refl)
 own_quiet told.Run own = (λ c. refl, λ c. refl)
-own_quiet (told.Mark pool member up) own = absurd own
+own_quiet (told.Mark pool member up) own = (λ c. refl, λ c. refl)
 
 -- the pieces that a call and the event of its answer tell each side of each connection to have taken
 abbrev pub told_pieces : Call → Event → Side → ℕ → List ℕ

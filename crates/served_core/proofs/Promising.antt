@@ -23,7 +23,8 @@ use Rattle.proxy_core.proofs.Promises.{every_past_matches}
 use Rattle.serve_loop.specs.declared.links.Links.{Links}
 use Rattle.serve_loop.specs.declared.link_owner.LinkOwner.{LinkOwner}
 use Rattle.serve_loop.specs.Part.{stand, Ready}
-use Rattle.serve_loop.specs.Server.{AsksInTurns, Running, TurnsAsk, Walked}
+use Rattle.serve_loop.specs.Marked.{PoolMark}
+use Rattle.serve_loop.specs.Server.{AsksInTurns, Running, TurnsAsk, WalkedMarking}
 use Rattle.serve_loop.specs.Walk.{Around, Given, Step, Own, Asked, Gives, Becomes, IsOwn, MayCall, Walks}
 use Rattle.serve_loop.specs.Faults.{FromNetOrSink}
 use Rattle.serve_loop.specs.declared.fault.ServeEnd.{ServeEnd}
@@ -150,18 +151,25 @@ keeps_by C steps core p = record {
 }
 
 pub kept : {S T : Type 0} {did : S → Call → S → Type 0} {gave : S → ℕ → Type 0} {C : Config} {conns : ℕ} {net : S} (start : Starts did C conns net)
-    (clock : T) (before : Option (List ℕ)) (new : Running Core S T) → Walked core_face did gave (started start clock before) new
-    → ServedEvents did C conns (started start clock before) new
-kept {gave = gave} {C} {conns} start clock before new walked =
+    (clock : T) (before : Option (List ℕ)) (marks : List PoolMark) (new : Running Core S T)
+    → WalkedMarking core_face did gave marks (started start clock before) new → ServedEvents did C conns marks (started start clock before) new
+kept {gave = gave} {C} {conns} start clock before marks new walked =
     let here = begins_with (gave start.begun) start in
     let done = walked here.1 start.begins.no_line_waits in
     let steps = done.made.steps in
     let first = start.server.serving in
     let last = new.server.serving in
-    let walks = subst (λ (n : ℕ). Walks core_face n (stand first) steps (stand last)) start.begins.conns_is done.made.leads in
+    let walks = subst (λ (n : ℕ). Walks core_face n (stand first) steps (stand last)) start.begins.conns_is done.made.leads.0 in
     let past = walks_past C conns steps [] (λ side c. []) (stand first) (stand last) walks
     (record { state = no_connections; represents = here.0; each = none_taken }) in
-    record { steps = steps; chain = done.made.chain; walks = walks; written = done.told; keeps = keeps_by C steps last.core past }
+    record {
+      steps = steps;
+      marked = done.made.leads.1;
+      chain = done.made.chain;
+      walks = walks;
+      written = done.told;
+      keeps = keeps_by C steps last.core past;
+    }
 
 none_linked : (link : ℕ) → None ≡ Some link → ⊥
 none_linked link e = cc

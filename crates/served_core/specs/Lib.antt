@@ -1,2 +1,4 @@
 pub mod Pieces
 pub mod Serves
+pub mod Members
+pub mod Watches

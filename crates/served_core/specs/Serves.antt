@@ -14,6 +14,7 @@ use Rattle.record_model.specs.Setup.{init_notes}
 use Rattle.run_config.specs.declared.config.Config.{Config}
 use Rattle.proxy_core.specs.declared.core_state.Core.{Core}
 use Rattle.serve_loop.specs.Events.{Grew}
+use Rattle.serve_loop.specs.Marked.{PoolMark, marks_in}
 use Rattle.serve_loop.specs.Part.{stand}
 use Rattle.serve_loop.specs.Walk.{Given, Step, Own, Asked, Walks, calls_in, text_in}
 use Rattle.serve_loop.specs.Broken.{steps_of}
@@ -52,10 +53,12 @@ pub record KeepsPromise (C : Config) (steps : List Step) (core : Core) : Type 0 
 
 -- All that was done, step by step: the calls on the net are exactly those of the steps, in order;
 -- each step is what the loop may do there, and no event is refused; the journal grew by exactly the
--- lines of the events and their notes. The core keeps its promise.
+-- lines of the events and their notes. The marks among the events are these. The core keeps its
+-- promise.
 pub record ServedEvents {S T : Type 0} (did : S → Call → S → Type 0) (C : Config) (conns : ℕ)
-    (old new : Running Core S T) : Type 0 where
+    (marks : List PoolMark) (old new : Running Core S T) : Type 0 where
   pub steps : List Step
+  pub marked : marks_in steps ≡ marks
   pub chain : Chain did old.net (calls_in steps) new.net
   pub walks : Walks core_face conns (stand old.server.serving) steps (stand new.server.serving)
   pub written : Grew old.written new.written (text_in steps)
@@ -80,13 +83,16 @@ pub record NeverServed {S T : Type 0} (did : S → Call → S → Type 0) (C : C
 -- All that was done up to a fault: whole steps, and one that broke off. The core keeps its promise
 -- with exactly the events that were given, those of the turn that met the fault among them. With
 -- the piece of a last write, whose event couldn't be given for want of memory, the pieces that each
--- client and its server took are fronts of what was sent to them still.
+-- client and its server took are fronts of what was sent to them still. The marks among the events are
+-- these.
 pub record EventsSome {S T : Type 0} (did : S → Call → S → Type 0) (gave : S → ℕ → Type 0)
-    (C : Config) (why : ServeFault) (old new : Running Core S T) : Type 0 where
+    (C : Config) (why : ServeFault) (marks : List PoolMark) (old new : Running Core S T)
+    : Type 0 where
   pub done : DoneSome core_face did gave why old.server.serving new.server.serving
       old.net new.net old.written new.written
   pub steps : List Step
   pub steps_are : steps ≡ done.walk.steps ++ steps_of done.walk.broken
+  pub marked : marks_in steps ≡ marks
   pub keeps : KeepsPromise C steps new.server.serving.core
   pub ungiven : (of : Side) (c : ℕ) → (n : ℕ) × (pieces_of c of steps
       ++ ungiven_piece c of done.walk.broken
@@ -116,9 +122,9 @@ pub record ServedSome {S T : Type 0} (did : S → Call → S → Type 0) (gave :
   pub last : Server Core
   pub stopped : Stopped core_face did gave ticked turns (started start clock before)
       (running last net' clock' after) why
-  pub events : ServedEvents did C conns (started start clock before) stopped.mid
+  pub events : ServedEvents did C conns [] (started start clock before) stopped.mid
   pub asks_pending : TurnsAsk core_face did gave stopped.made (started start clock before) stopped.mid
-  pub all_events : EventsSome did gave C why (started start clock before)
+  pub all_events : EventsSome did gave C why [] (started start clock before)
       (running last net' clock' after)
 
 -- what was done before a fault
@@ -138,7 +144,7 @@ pub record ServesConfig {S T : Type 0} (did : S → Call → S → Type 0) (gave
   pub last : Server Core
   pub served : IsServed core_face did gave ticked turns (started start clock before)
       (running last net' clock' after) end
-  pub events : ServedEvents did C conns (started start clock before)
+  pub events : ServedEvents did C conns [] (started start clock before)
       (running last net' clock' after)
   pub asks_pending : TurnsAsk core_face did gave served.made (started start clock before)
       (running last net' clock' after)

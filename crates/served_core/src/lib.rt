@@ -2,5 +2,8 @@
 #![tactic(auto)]
 
 mod serves;
+mod start;
+mod watches;
 
 pub use serves::serve_config;
+pub use watches::serve_monitored;

@@ -1,15 +1,12 @@
 // A configuration is served.
 
-ghost use Rattle.std.specs.Prelude.{◌≡◌, ◌≤◌, IfOk, IfErr, OnErr, OnOk};
-ghost use Rattle.journal_text.specs.Notes.{note_lines};
-ghost use Rattle.px_outside.specs.Outside.{told_more};
-ghost use Rattle.serve_loop.specs.Faults.{FromNetOrSink, FromSink};
-ghost use Rattle.served_core.specs.Serves.{ServesConfig, StopsConfig, WroteSome};
+ghost use Rattle.std.specs.Prelude.{◌≡◌, ◌≤◌, IfOk, IfErr};
+ghost use Rattle.serve_loop.specs.Faults.{FromNetOrSink};
+ghost use Rattle.served_core.specs.Serves.{ServesConfig, StopsConfig};
 
-use core_events::Note;
-use journal_text::write_notes;
+use crate::start::write_start;
 use proxy_core::Core;
-use px_outside::{Clock, Failed, Net, Sink, write_all};
+use px_outside::{Clock, Net, Sink};
 use run_config::Config;
 use serve_loop::{ServeEnd, ServeFault, Server, serve};
 use std::alloc::Global;
@@ -45,21 +42,4 @@ pub fn serve_config<N: Net, T: Clock, K: Sink>(
     let ended = serve(&mut server, net, clock, journal, turns);
     drop(server);
     ended
-}
-
-// Writes the notes of the start.
-fn write_start<K: Sink>(alloc: Global, notes: &[Note], journal: &mut K) -> Result<(), ServeFault>
-    ensures written { OnOk result
-        (K.written journal.new ≡ told_more (K.written journal.old) (note_lines notes.now)) }
-    ensures some { OnErr result
-        (WroteSome (note_lines notes.now) (K.written journal.old) (K.written journal.new)) }
-    ensures fails { IfErr result (FromSink (K.faults journal.old) (K.faults journal.new)) }
-    ensures faults_never_fall { K.faults journal.old ≤ K.faults journal.new }
-{
-    let text = write_notes(alloc, notes)?;
-    match write_all(journal, text.as_bytes()) {
-        Ok(()) => Ok(()),
-        Err(Failed::Failed) => Err(ServeFault::Write),
-        Err(Failed::Memory) => Err(ServeFault::Memory),
-    }
 }

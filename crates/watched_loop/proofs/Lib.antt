@@ -1,0 +1,6 @@
+pub mod Faults
+pub mod Marking
+pub mod Turning
+pub mod Members
+pub mod Walking
+pub mod Pumping

@@ -1,5 +1,5 @@
 use Rattle.std.proofs.lemmas.Result.{IfOk-weaker, IfErr-weaker}
-use Rattle.std.proofs.Common.{◌≡◌, ◌≤◌, List, ℕ, Option, inl, inr, length, refl, ap, sym, ◌∙◌, subst, arith}
+use Rattle.std.proofs.Common.{◌≡◌, ◌≤◌, List, [], ℕ, Option, inl, inr, length, refl, ap, sym, ◌∙◌, subst, arith}
 use Rattle.std.proofs.lemmas.List.{take_all}
 use Rattle.px_outside.specs.Outside.{told_more}
 use Rattle.core_events.specs.declared.note.Note.{Note}
@@ -48,7 +48,7 @@ returns-clause-serves g c =
       start = start;
       last = c.serve-ended.new.server;
       served = served;
-      events = kept start c.args.clock.now before _ served.walked;
+      events = kept start c.args.clock.now before [] _ served.walked;
       asks_pending = asked g.N.Net.gave start c.args.clock.now before _ served.made served.asks_pending;
     }) c.serve-ended.ensures.served
 
@@ -117,7 +117,7 @@ returns-clause-stopped g c =
       start = start;
       last = c.serve-ended.new.server;
       stopped = stopped;
-      events = kept start c.args.clock.now before stopped.mid stopped.walked;
+      events = kept start c.args.clock.now before [] stopped.mid stopped.walked;
       asks_pending = asked g.N.Net.gave start c.args.clock.now before stopped.mid stopped.made stopped.asks_pending;
-      all_events = kept_some start c.args.clock.now before _ stopped.all;
+      all_events = kept_some start c.args.clock.now before [] _ stopped.all;
     })) c.serve-ended.ensures.stopped
