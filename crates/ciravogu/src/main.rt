@@ -44,7 +44,7 @@ fn run_words(rt: &HostRuntime, words: &Texts) -> io::Result<Status> {
         return Ok(test_real(rt, words));
     }
     match serve_of(rt.alloc(), words) {
-        Ok(serve) => Ok(serve_real(rt, words, serve.journal)),
+        Ok(serve) => Ok(serve_real(rt, words, serve)),
         Err(UsageFault::Usage) => Ok(run_offline(rt, words)),
         Err(UsageFault::Memory) => Err(io::Error::from(ErrorKind::OutOfMemory)),
     }

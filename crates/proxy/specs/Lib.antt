@@ -22,3 +22,4 @@ pub mod Journal
 pub mod HostCommands
 pub mod SecondText
 pub mod ServeWords
+pub mod Watching

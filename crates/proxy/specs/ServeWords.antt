@@ -23,10 +23,10 @@ option_rule name = record (new_rule name) { long = Some name }
 
 abbrev pub serve_app : App
 serve_app =
-    with_rule (with_rule (with_rule (with_rule
+    with_rule (with_rule (with_rule (with_rule (with_rule
     (on_top (λ s. record s { disable_help_flag = true }) (new_app (codes "serve")))
     config_rule) (option_rule (codes "conns"))) (option_rule (codes "turns")))
-    (option_rule (codes "record"))
+    (option_rule (codes "record"))) (option_rule (codes "monitors"))
 
 -- the words are the command's
 abbrev pub AreServeWords : List Text → Type 0
@@ -41,6 +41,7 @@ pub record Fields : Type 0 where
   pub conns : Option Text
   pub turns : Option Text
   pub journal : Option Text
+  pub monitors : Option Text
 
 abbrev pub fields_of : List Text → Fields
 fields_of words = record {
@@ -48,6 +49,7 @@ fields_of words = record {
   conns = value_in words (codes "conns");
   turns = value_in words (codes "turns");
   journal = value_in words (codes "record");
+  monitors = value_in words (codes "monitors");
 }
 
 abbrev pub fields_view : Given → Fields
@@ -56,6 +58,7 @@ fields_view g = record {
   conns = option_map (λ t. t.now) g.conns;
   turns = option_map (λ t. t.now) g.turns;
   journal = option_map (λ t. t.now) g.journal;
+  monitors = option_map (λ t. t.now) g.monitors;
 }
 
 -- ---- what is refused whatever `clap` says of it
@@ -72,7 +75,7 @@ is_empty (byte ∷ word) = false
 abbrev pub is_plain : Text → Bool
 is_plain word = not (is_empty word || (bytes_eq word (codes "-") || (bytes_eq word (codes "--")
     || (bytes_eq word (codes "--conns=") || (bytes_eq word (codes "--turns=")
-    || bytes_eq word (codes "--record="))))))
+    || (bytes_eq word (codes "--record=") || bytes_eq word (codes "--monitors=")))))))
 
 -- ---- what they say
 
@@ -86,6 +89,7 @@ pub record Says (f : Fields) (s : Serve) : Type 0 where
   pub conns : IsCount f.conns (2 ^ 32 - 1) s.conns
   pub turns : IsCount f.turns (2 ^ 63 - 1) s.turns
   pub journal : s.journal ≡ f.journal
+  pub monitors : s.monitors ≡ f.monitors
 
 -- the words are `serve`'s, and say this
 pub record IsServe (words : List Text) (s : Serve) : Type 0 where

@@ -1,5 +1,5 @@
 -- What `serve` comes to: the promise of the command that serves.
-use Rattle.std.specs.Prelude.{◌≡◌, ◌⊎◌, ℕ, List, Option, Result, Ok, Err, Bool, true, false}
+use Rattle.std.specs.Prelude.{◌≡◌, ◌⊎◌, ℕ, List, Option, None, Result, Ok, Err, Bool, true, false}
 use Rattle.config.specs.declared.fault.ConfigError.{ConfigError}
 use Rattle.config.specs.declared.fault.ConfigError.TheVariants as config
 use Rattle.config.specs.declared.reader.LoadedConfig as loaded
@@ -29,6 +29,7 @@ status_of is.WriteFault = 6
 status_of is.Memory = 7
 status_of is.NetFault = 8
 status_of is.Turns = 9
+status_of is.Monitors = 12
 
 abbrev pub read_end : Bool → Outcome
 read_end true = is.ReadFault
@@ -117,31 +118,44 @@ ServesTo did gave ticked told s old new is.NetFault =
     StopsFile did gave ticked told s old new fault.Net × Rose old.net_faults new.net_faults
 ServesTo did gave ticked told s old new is.Turns =
     ServesFile did gave ticked told s old new ending.Turns
+ServesTo did gave ticked told s old new is.Monitors = ⊥
 
--- the words are `serve`'s, and it ends so
+-- where there are monitors, nothing is done
+abbrev pub ServesPlain : {S T : Type 0} → (S → Call → S → Type 0) → (S → ℕ → Type 0)
+    → (T → ℕ → T → Type 0)
+    → (List ℕ → Option (List ℕ)) → Serve → Outside S T → Outside S T → Outcome → Type 0
+ServesPlain did gave ticked told s old new is.Usage =
+    (s.monitors ≡ None → ⊥) × ((new.reads ≡ old.reads) × Untouched old new)
+ServesPlain did gave ticked told s old new end =
+    (s.monitors ≡ None) × ServesTo did gave ticked told s old new end
+
+-- the words are `serve`'s, without monitors, and it ends so
 abbrev pub OfServe : {S T : Type 0} → (S → Call → S → Type 0) → (S → ℕ → Type 0)
     → (T → ℕ → T → Type 0)
     → (List ℕ → Option (List ℕ)) → List (List ℕ) → Outside S T → Outside S T → Outcome → Type 0
 OfServe did gave ticked told words old new end =
-    (s : Serve) × IsServe words s × ServesTo did gave ticked told s old new end
+    (s : Serve) × IsServe words s × (s.monitors ≡ None) × ServesTo did gave ticked told s old new end
 
 -- The promise for these words, by the end: `told` is what the files hold, where they tell it.
 abbrev pub OfWords : {S T : Type 0} → (S → Call → S → Type 0) → (S → ℕ → Type 0)
     → (T → ℕ → T → Type 0)
     → (List ℕ → Option (List ℕ)) → List (List ℕ) → Outside S T → Outside S T → Outcome → Type 0
 OfWords did gave ticked told words old new is.Usage =
-    ((s : Serve) → IsServe words s → ⊥) × ((new.reads ≡ old.reads) × Untouched old new)
+    ((s : Serve) → IsServe words s → s.monitors ≡ None → ⊥)
+    × ((new.reads ≡ old.reads) × Untouched old new)
 OfWords did gave ticked told words old new is.Memory =
     OfServe did gave ticked told words old new is.Memory ⊎ Untouched old new
 OfWords did gave ticked told words old new end = OfServe did gave ticked told words old new end
 
 -- ---- when it comes to an end that was asked for
 
--- the words are `serve`'s, the configuration loads and can be run, and no count rose
+-- the words are `serve`'s, without monitors, the configuration loads and can be run, and no count
+-- rose
 pub record MayServe {S T : Type 0} (told : List ℕ → Option (List ℕ)) (words : List (List ℕ))
     (old new : Outside S T) : Type 0 where
   pub serve : Serve
   pub is_serve : IsServe words serve
+  pub no_monitors : serve.monitors ≡ None
   pub C : loaded.LoadedConfig
   pub loads : MayLoad told serve.config C
   pub built : IsBuilt C

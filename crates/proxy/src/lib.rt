@@ -25,6 +25,7 @@ mod serve;
 mod serve_words;
 mod server_bytes;
 mod taken;
+mod watch;
 
 pub use end::Status;
 pub use laws::{journal_has_no_fault, journal_is_read, journal_replays, loaded_is_run};
@@ -32,3 +33,4 @@ pub use offline_commands::offline;
 pub use runnable::core_config;
 pub use serve::serve_command;
 pub use serve_words::{Serve, UsageFault, serve_of};
+pub use watch::serve_watched;

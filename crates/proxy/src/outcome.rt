@@ -21,6 +21,8 @@ pub enum Outcome {
     NetFault,
     /// As many turns as were asked for were made.
     Turns,
+    /// The file of the monitors has a fault.
+    Monitors,
 }
 
 impl Outcome {
@@ -39,6 +41,7 @@ impl Outcome {
             Outcome::Memory => 7,
             Outcome::NetFault => 8,
             Outcome::Turns => 9,
+            Outcome::Monitors => 12,
         })
     }
 }

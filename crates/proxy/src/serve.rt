@@ -1,7 +1,7 @@
 // The command that serves.
 
 ghost use Rattle.std.specs.Prelude.{◌≡◌};
-ghost use Rattle.proxy.specs.Serving.{OfWords, ServeCompletes, ServesTo, end_of, outside};
+ghost use Rattle.proxy.specs.Serving.{OfWords, ServeCompletes, ServesPlain, ServesTo, end_of, outside};
 ghost use Rattle.proxy.specs.Serving.{refused_end, status_of};
 
 use crate::end::Status;
@@ -51,10 +51,31 @@ fn run<F: Files, N: Net, T: Clock, K: Sink>(
         OfWords N.did N.gave T.gave (F.told files.old) words.now before after result }
 {
     match serve_of(alloc, words) {
-        Ok(serve) => serve_file(alloc, &serve, files, net, clock, journal),
+        Ok(serve) => serve_plain(alloc, &serve, files, net, clock, journal),
         Err(UsageFault::Usage) => Outcome::Usage,
         Err(UsageFault::Memory) => Outcome::Memory,
     }
+}
+
+// What serves is here, unless there are monitors.
+fn serve_plain<F: Files, N: Net, T: Clock, K: Sink>(
+    alloc: Global,
+    serve: &Serve,
+    files: &mut F,
+    net: &mut N,
+    clock: &mut T,
+    journal: &mut K,
+) -> Outcome
+    ensures { let before = outside net.old clock.old (K.written journal.old)
+        (F.faults files.old) (N.faults net.old) (K.faults journal.old) in
+        let after = outside net.new clock.new (K.written journal.new)
+        (F.faults files.new) (N.faults net.new) (K.faults journal.new) in
+        ServesPlain N.did N.gave T.gave (F.told files.old) serve.now before after result }
+{
+    if serve.monitors.is_some() {
+        return Outcome::Usage;
+    }
+    serve_file(alloc, serve, files, net, clock, journal)
 }
 
 // Reads the configuration, and serves it.
@@ -85,8 +106,8 @@ fn serve_file<F: Files, N: Net, T: Clock, K: Sink>(
     end_of(serve_config(alloc, config, net, clock, journal, serve.conns, serve.turns))
 }
 
-// How it ends where there is no configuration.
-fn refused_end(why: &ConfigError) -> Outcome
+/// How it ends where there is no configuration.
+pub fn refused_end(why: &ConfigError) -> Outcome
     ensures { result ≡ refused_end why.now }
 {
     match why {
@@ -101,7 +122,7 @@ fn refused_end(why: &ConfigError) -> Outcome
     }
 }
 
-fn end_of(served: Result<ServeEnd, ServeFault>) -> Outcome
+pub fn end_of(served: Result<ServeEnd, ServeFault>) -> Outcome
     ensures { result ≡ end_of served }
 {
     match served {

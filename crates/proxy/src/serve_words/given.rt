@@ -16,6 +16,7 @@ pub struct Given<'a> {
     pub conns: Option<&'a str>,
     pub turns: Option<&'a str>,
     pub journal: Option<&'a str>,
+    pub monitors: Option<&'a str>,
 }
 
 fn serve_command<'a>(alloc: Global) -> Result<Command<'a>, AllocError>
@@ -25,12 +26,14 @@ fn serve_command<'a>(alloc: Global) -> Result<Command<'a>, AllocError>
     let conns = Arg::new(alloc, "conns").long("conns");
     let turns = Arg::new(alloc, "turns").long("turns");
     let record = Arg::new(alloc, "record").long("record");
+    let monitors = Arg::new(alloc, "monitors").long("monitors");
     Command::new(alloc, "serve")
         .disable_help_flag(true)
         .arg(config)?
         .arg(conns)?
         .arg(turns)?
-        .arg(record)
+        .arg(record)?
+        .arg(monitors)
 }
 
 /// Reads words, the first of which stands for the command.
@@ -50,6 +53,7 @@ pub fn read_words<'a>(alloc: Global, words: &'a [&'a str]) -> Result<Given<'a>, 
             conns: matches.get_str("conns"),
             turns: matches.get_str("turns"),
             journal: matches.get_str("record"),
+            monitors: matches.get_str("monitors"),
         }),
         Err(error) => {
             if error.kind() == ErrorKind::OutOfMemory {

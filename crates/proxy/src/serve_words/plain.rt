@@ -31,5 +31,6 @@ fn is_plain(word: &[u8]) -> bool
         || word == b"--".as_slice()
         || word == b"--conns=".as_slice()
         || word == b"--turns=".as_slice()
-        || word == b"--record=".as_slice())
+        || word == b"--record=".as_slice()
+        || word == b"--monitors=".as_slice())
 }

@@ -24,6 +24,8 @@ pub struct Serve {
     pub turns: u64,
     /// The file of the journal.
     pub journal: Option<Text>,
+    /// The file of the monitors.
+    pub monitors: Option<Text>,
 }
 
 /// Why the words aren't read.
@@ -46,8 +48,9 @@ impl From<Memory> for UsageFault {
     }
 }
 
-/// What the words say: `serve CONFIG [--conns N] [--turns N] [--record FILE]`, the options in any
-/// place, each once at most, also with `=`. A count begins at 1, without needless zeros.
+/// What the words say: `serve CONFIG [--conns N] [--turns N] [--record FILE] [--monitors FILE]`, the
+/// options in any place, each once at most, also with `=`. A count begins at 1, without needless
+/// zeros.
 pub fn serve_of(alloc: Global, words: &Texts) -> Result<Serve, UsageFault>
     ensures serve { IfOk result (λ s. IsServe words.now s) }
     ensures usage { result ≡ Err UsageFault.Usage → (s : Serve) → ¬ (IsServe words.now s) }
@@ -85,6 +88,7 @@ fn said(alloc: Global, given: &Given<'_>) -> Result<Serve, UsageFault>
         conns: conns as u32,
         turns,
         journal: copy(alloc, given.journal)?,
+        monitors: copy(alloc, given.monitors)?,
     })
 }
 

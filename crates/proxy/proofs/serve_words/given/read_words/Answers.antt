@@ -21,14 +21,16 @@ returns-in-Ok-try_get_matches_from-clause-words c =
     let none = c.in-Ok-try_get_matches_from.ensures.kinds (ap is_simple_and_free shape ∙ free) in
     ap (λ a. fault_of a (map (λ w. w.now) c.args.words.now)) (sym shape) ∙ none
 
--- the four values are those that were found, and those are the walk's
-four : (a b d e a' b' d' e' : Option Text) → a ≡ a' → b ≡ b' → d ≡ d' → e ≡ e'
-    → ◌≡◌ {A = Fields} (record { config = a; conns = b; turns = d; journal = e }) (record { config = a'; conns = b'; turns = d'; journal = e' })
-four a b d e a' b' d' e' p q r s =
-    ap (λ x. record { config = x; conns = b; turns = d; journal = e }) p
-    ∙ ap (λ x. record { config = a'; conns = x; turns = d; journal = e }) q
-    ∙ ap (λ x. record { config = a'; conns = b'; turns = x; journal = e }) r
-    ∙ ap (λ x. record { config = a'; conns = b'; turns = d'; journal = x }) s
+-- the five values are those that were found, and those are the walk's
+five : (a b d e f a' b' d' e' f' : Option Text) → a ≡ a' → b ≡ b' → d ≡ d' → e ≡ e' → f ≡ f'
+    → ◌≡◌ {A = Fields} (record { config = a; conns = b; turns = d; journal = e; monitors = f })
+    (record { config = a'; conns = b'; turns = d'; journal = e'; monitors = f' })
+five a b d e f a' b' d' e' f' p q r s t =
+    ap (λ x. record { config = x; conns = b; turns = d; journal = e; monitors = f }) p
+    ∙ ap (λ x. record { config = a'; conns = x; turns = d; journal = e; monitors = f }) q
+    ∙ ap (λ x. record { config = a'; conns = b'; turns = x; journal = e; monitors = f }) r
+    ∙ ap (λ x. record { config = a'; conns = b'; turns = d'; journal = x; monitors = f }) s
+    ∙ ap (λ x. record { config = a'; conns = b'; turns = d'; journal = e'; monitors = x }) t
 
 pub returns-in-Ok-try_get_matches_from-clause-fields : goal.returns-in-Ok-try_get_matches_from-clause-fields
 returns-in-Ok-try_get_matches_from-clause-fields c =
@@ -37,5 +39,6 @@ returns-in-Ok-try_get_matches_from-clause-fields c =
     let found = found_of c.in-Ok-try_get_matches_from.matches in
     let is : (name : Text) → first_value found name ≡ first_of name (matches_of serve_app (map (λ w. w.now) c.args.words.now)) =
     λ name. first_value-rows found name ∙ ap (first_of name) (rows ∙ ap (λ a. matches_of a (map (λ w. w.now) c.args.words.now)) shape) in
-    four _ _ _ _ _ _ _ _ (c.get_str.ensures ∙ is (codes "config")) (c.get_str-in-Ok-try_get_matches_from.ensures ∙ is (codes "conns"))
+    five _ _ _ _ _ _ _ _ _ _ (c.get_str.ensures ∙ is (codes "config")) (c.get_str-in-Ok-try_get_matches_from.ensures ∙ is (codes "conns"))
     (c.get_str-in-Ok-try_get_matches_from-2.ensures ∙ is (codes "turns")) (c.get_str-in-Ok-try_get_matches_from-3.ensures ∙ is (codes "record"))
+    (c.get_str-in-Ok-try_get_matches_from-4.ensures ∙ is (codes "monitors"))
