@@ -1,6 +1,7 @@
 // Monitors that are read.
 
 use crate::pumps::say_pumps;
+use crate::watched::watched_answer;
 use config::{ConfigError, ConfigFault, LoadedConfig, read_config};
 use pool_monitor::{Board, HttpCheck, Monitor, read_monitors};
 use px_bytes::{Pairs, Text};
@@ -8,14 +9,15 @@ use px_outside::{Counts, MemFiles};
 use questions::Question;
 
 /// The names of the files that hold the documents.
-const CONFIG: &[u8] = b"config.toml";
+pub const CONFIG: &[u8] = b"config.toml";
 
-const MONITORS: &[u8] = b"monitors.toml";
+pub const MONITORS: &[u8] = b"monitors.toml";
 
 pub fn answer(question: &mut Question<'_>) {
     match question.word() {
         "read_monitors" => read_answer(question),
         "pump" => pump_answer(question),
+        "watched" => watched_answer(question),
         _ => question.unknown(),
     }
 }

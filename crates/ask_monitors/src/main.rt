@@ -5,6 +5,7 @@ mod asked;
 mod counted;
 mod links;
 mod pumps;
+mod watched;
 
 use questions::Question;
 use std::alloc::Global;

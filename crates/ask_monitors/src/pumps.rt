@@ -10,8 +10,8 @@ use questions::Question;
 /// The most links of a net in memory.
 const MOST_LINKS: usize = 1000;
 
-// No call fails.
-fn fails(question: &Question<'_>) -> NetFails {
+/// No call fails.
+pub fn fails(question: &Question<'_>) -> NetFails {
     let alloc = question.alloc;
     NetFails {
         listen: Counts::new(alloc),
@@ -21,8 +21,8 @@ fn fails(question: &Question<'_>) -> NetFails {
     }
 }
 
-// The net of the links that stand between two `/`.
-fn net_of(question: &mut Question<'_>) -> M<MemNet> {
+/// The net of the links that stand between two `/`.
+pub fn net_of(question: &mut Question<'_>) -> M<MemNet> {
     if !question.takes("/") {
         question.unknown();
     }

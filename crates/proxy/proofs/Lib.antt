@@ -28,3 +28,5 @@ mod SecondTexts
 pub mod Serving
 pub mod HostNames
 pub mod HostRows
+pub mod Monitored
+pub mod Watching

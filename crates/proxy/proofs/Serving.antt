@@ -1,5 +1,5 @@
 -- What serving comes to, and when it is what was asked for.
-use Rattle.std.proofs.Common.{◌≡◌, ℕ, Bool, true, false, List, Option, Some, None, inl, inr, refl, subst}
+use Rattle.std.proofs.Common.{◌≡◌, ℕ, Bool, true, false, List, Option, Some, None, inl, inr, refl, sym, subst, ◌∙◌}
 use Rattle.std.specs.Prelude.{Result, Ok, Err, IfOk, IfErr}
 use Rattle.config.specs.Outcomes.{Answers}
 use Rattle.config.specs.declared.fault.ConfigError.{ConfigError}
@@ -23,7 +23,7 @@ use Rattle.proxy.specs.Offline.{IsRefusal}
 use Rattle.proxy.specs.Runnable.{IsRun, run_of}
 use Rattle.proxy.proofs.Building.{not_run}
 use Rattle.proxy.specs.Says.{fault_text}
-use Rattle.proxy.specs.Serving.{MayServe, OfServe, OfWords, Outside, ServeCompletes, ServesTo, Untouched, end_of, read_end, refused_end}
+use Rattle.proxy.specs.Serving.{MayServe, OfServe, OfWords, Outside, ServeCompletes, ServesPlain, ServesTo, Untouched, end_of, read_end, refused_end}
 use Rattle.proxy.proofs.Completing.{no_refusal}
 use Rattle.proxy.proofs.ConfigAnswers.{loads, read_rose}
 
@@ -66,16 +66,33 @@ module _ {S T : Type 0} (did : S → Call → S → Type 0) (gave : S → ℕ �
     served C K answers run (Err fault.Memory) free stops rose =
         inl (record { C = C; K = K; loads = loads told old.reads new.reads s.config C answers; is_run = run; stops = stops })
 
+  -- where there are no monitors
+  pub plain : (s : Serve) → s.monitors ≡ None → (end : Outcome) → ServesTo did gave ticked told s old new end → ServesPlain did gave ticked told s old new end
+  plain s none is.Conns it = (none, it)
+  plain s none is.Usage it = absurd it
+  plain s none is.Config it = (none, it)
+  plain s none is.ReadFault it = (none, it)
+  plain s none is.WriteFault it = (none, it)
+  plain s none is.Memory it = (none, it)
+  plain s none is.NetFault it = (none, it)
+  plain s none is.Turns it = (none, it)
+  plain s none is.Monitors it = absurd it
+
   module _ (words : List (List ℕ)) where
-    pub of_serve : (s : Serve) → IsServe words s → (end : Outcome) → ServesTo did gave ticked told s old new end → OfWords did gave ticked told words old new end
-    of_serve s is_serve is.Conns it = (s, is_serve, it)
-    of_serve s is_serve is.Usage it = absurd it
-    of_serve s is_serve is.Config it = (s, is_serve, it)
-    of_serve s is_serve is.ReadFault it = (s, is_serve, it)
-    of_serve s is_serve is.WriteFault it = (s, is_serve, it)
-    of_serve s is_serve is.Memory it = inl (s, is_serve, it)
-    of_serve s is_serve is.NetFault it = (s, is_serve, it)
-    of_serve s is_serve is.Turns it = (s, is_serve, it)
+    -- the words name monitors or none
+    same_monitors : (s t : Serve) → IsServe words s → IsServe words t → t.monitors ≡ None → s.monitors ≡ None
+    same_monitors s t p q none = p.says.monitors ∙ sym q.says.monitors ∙ none
+
+    pub of_serve : (s : Serve) → IsServe words s → (end : Outcome) → ServesPlain did gave ticked told s old new end → OfWords did gave ticked told words old new end
+    of_serve s is_serve is.Conns it = (s, is_serve, it.0, it.1)
+    of_serve s is_serve is.Usage it = (λ t q none. it.0 (same_monitors s t is_serve q none), it.1)
+    of_serve s is_serve is.Config it = (s, is_serve, it.0, it.1)
+    of_serve s is_serve is.ReadFault it = (s, is_serve, it.0, it.1)
+    of_serve s is_serve is.WriteFault it = (s, is_serve, it.0, it.1)
+    of_serve s is_serve is.Memory it = inl (s, is_serve, it.0, it.1)
+    of_serve s is_serve is.NetFault it = (s, is_serve, it.0, it.1)
+    of_serve s is_serve is.Turns it = (s, is_serve, it.0, it.1)
+    of_serve s is_serve is.Monitors it = absurd it.1
 
     -- the words name one configuration
     same_config : (s t : Serve) → IsServe words s → IsServe words t → t.config ≡ s.config
@@ -83,15 +100,16 @@ module _ {S T : Type 0} (did : S → Call → S → Type 0) (gave : S → ℕ �
 
     config_refused : (m : MayServe told words old new) → OfServe did gave ticked told words old new is.Config → ⊥
     config_refused m k =
-        no_refusal told old.reads new.reads m.serve.config m.C m.loads m.built k.2.0.0
-        (subst (λ (name : List ℕ). IsRefusal told old.reads new.reads name k.2.0.0) (same_config m.serve k.0 m.is_serve k.1) k.2.0.1)
+        no_refusal told old.reads new.reads m.serve.config m.C m.loads m.built k.3.0.0
+        (subst (λ (name : List ℕ). IsRefusal told old.reads new.reads name k.3.0.0) (same_config m.serve k.0 m.is_serve k.1) k.3.0.1)
 
     pub serve_completes : (end : Outcome) → OfWords did gave ticked told words old new end → ServeCompletes told words old new end
     serve_completes is.Conns k m = inl refl
-    serve_completes is.Usage k m = absurd (k.0 m.serve m.is_serve)
+    serve_completes is.Usage k m = absurd (k.0 m.serve m.is_serve m.no_monitors)
     serve_completes is.Config k m = absurd (config_refused m k)
-    serve_completes is.ReadFault k m = absurd (m.no_read_fault k.2.0)
-    serve_completes is.WriteFault k m = absurd (m.no_write_fault k.2.1)
+    serve_completes is.ReadFault k m = absurd (m.no_read_fault k.3.0)
+    serve_completes is.WriteFault k m = absurd (m.no_write_fault k.3.1)
     serve_completes is.Memory k m = inr (inr refl)
-    serve_completes is.NetFault k m = absurd (m.no_net_fault k.2.1)
+    serve_completes is.NetFault k m = absurd (m.no_net_fault k.3.1)
     serve_completes is.Turns k m = inr (inl refl)
+    serve_completes is.Monitors k m = absurd k.3

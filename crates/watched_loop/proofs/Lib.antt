@@ -4,3 +4,4 @@ pub mod Turning
 pub mod Members
 pub mod Walking
 pub mod Pumping
+pub mod Begins
