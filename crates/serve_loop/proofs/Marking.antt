@@ -17,7 +17,7 @@ use Rattle.serve_loop.specs.Marked.{PoolMark, marked, marks_in}
 use Rattle.serve_loop.specs.Marks.{IsEvent, mark_event}
 use Rattle.serve_loop.specs.Part.{Part, Ready, stand}
 use Rattle.serve_loop.specs.Running.{OwnStep}
-use Rattle.serve_loop.specs.Walk.{Own, Step, text_in}
+use Rattle.serve_loop.specs.Walk.{Around, Own, Step, text_in}
 use Rattle.serve_loop.specs.Walk.{Asked as Asks}
 use Rattle.serve_loop.proofs.Breaking.{breaks_off, breaks_behind, lines_behind}
 use Rattle.serve_loop.proofs.Fresh.{once_none}
@@ -32,7 +32,7 @@ some_marks m (Own g ∷ []) it = (true, ap (λ (l : List PoolMark). l ++ []) (ap
 some_marks m (Asks call given ∷ []) it = absurd it
 some_marks m (x ∷ y ∷ l) it = absurd it
 
-own_is : {C : Type 0} (face : Face C) (e : Event) {a b : _} (l : List Step) → OwnStep face e a l b → AtMostOne (IsEvent e) (l ++ [])
+own_is : {C : Type 0} (face : Face C) (e : Event) {a b : Around C} (l : List Step) → OwnStep face e a l b → AtMostOne (IsEvent e) (l ++ [])
 own_is face e l it = subst (λ (k : List Step). AtMostOne (IsEvent e) (k ++ [])) (sym it.steps_are) it.gives.event_is
 
 module _ {C S : Type 0} (face : Face C) (did : S → Call → S → Type 0) (gave : S → ℕ → Type 0) (m : PoolMark)

@@ -9,7 +9,8 @@ use Rattle.watched_loop.specs.Watching.{Begun, WatchedTurns, Watching}
 
 pumps_append : {P : Type 0} (probed : P → Call → P → Type 0) (xs ys : List Told) (w : Watch) (p : P) (v : Watch) (q : P) (u : Watch) (r : P)
     → Pumps probed w p xs v q → Pumps probed v q ys u r → Pumps probed w p (xs ++ ys) u r
-pumps_append probed [] ys w p v q u r one two = subst (λ (a : Watch). Pumps probed a p ys u r) one.0 (subst (λ (b : _). Pumps probed v b ys u r) one.1 two)
+pumps_append {P} probed [] ys w p v q u r one two =
+    subst (λ (a : Watch). Pumps probed a p ys u r) one.0 (subst (λ (b : P). Pumps probed v b ys u r) one.1 two)
 pumps_append probed (t ∷ xs) ys w p v q u r one two = (one.0, one.1, one.2, pumps_append probed xs ys one.0 one.1 v q u r one.3 two)
 
 begun_pumps : {C S P : Type 0} (face : Face C) (did : S → Call → S → Type 0) (gave : S → ℕ → Type 0) (probed : P → Call → P → Type 0) (first : Bool)

@@ -13,7 +13,7 @@ use Rattle.pool_monitor.specs.History.{Told}
 use Rattle.pool_monitor.specs.Pump.{Watch}
 use Rattle.pool_monitor.specs.declared.mark.Mark.{Mark}
 use Rattle.serve_loop.specs.Broken.{Unbegun, steps_of}
-use Rattle.serve_loop.specs.Events.{Grew}
+use Rattle.serve_loop.specs.Events.{Grew, TellsFront}
 use Rattle.serve_loop.specs.Fallen.{DoneSome, Fell}
 use Rattle.serve_loop.specs.Faults.{is_not_net}
 use Rattle.serve_loop.specs.Marked.{PoolMark, marked, marks_in}
@@ -141,7 +141,7 @@ module _ {C S : Type 0} (face : Face C) (did : S → Call → S → Type 0) (gav
           short = false;
           at_memory = λ e. cc;
           walk = breaks_behind refl one one.leads.0 (breaks_off Unbegun refl refl one.ready.stands (once_none (λ l there. there)));
-          lines = lines_behind (λ (l : List ℕ). _) one.steps [] Unbegun
+          lines = lines_behind (TellsFront (Grew old.written new.written) (is_not_net why)) one.steps [] Unbegun
               (tells_whole {Told = Grew old.written new.written} (is_not_net why) (text_in one.steps ++ [])
               (it.told ∙ ap (λ (l : List ℕ). told_more old.written l) (sym (append-nil (text_in one.steps)))));
         },
