@@ -30,3 +30,4 @@ pub mod HostNames
 pub mod HostRows
 pub mod Monitored
 pub mod Watching
+pub mod MonitorFaults

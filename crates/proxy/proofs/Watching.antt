@@ -29,6 +29,7 @@ use Rattle.proxy.specs.declared.outcome.Outcome.TheVariants as is
 use Rattle.proxy.specs.declared.serve_words.serve.Serve.{Serve}
 use Rattle.proxy.proofs.Building.{not_run}
 use Rattle.proxy.proofs.ConfigAnswers.{loads, read_rose}
+use Rattle.proxy.proofs.MonitorFaults.{monitors_rose}
 
 module _ {S T P : Type 0} (did : S → Call → S → Type 0) (gave : S → ℕ → Type 0) (ticked : T → ℕ → T → Type 0) (probed : P → Call → P → Type 0)
     (told : List ℕ → Option (List ℕ)) (old new : WatchedOutside S T P) where
@@ -105,16 +106,16 @@ module _ {S T P : Type 0} (did : S → Call → S → Type 0) (gave : S → ℕ 
 module _ {S T P : Type 0} (did : S → Call → S → Type 0) (gave : S → ℕ → Type 0) (ticked : T → ℕ → T → Type 0) (probed : P → Call → P → Type 0)
     (told : List ℕ → Option (List ℕ)) (old new : WatchedOutside S T P) (s : Serve) (C : loaded.LoadedConfig) (file : List ℕ)
     (named : s.monitors ≡ Some file) (load : Loads told s.config C) where
-  monitors_fault : (f : ConfigFault) (b : Bool) → is_read_fault f.kind ≡ b → (b ≡ true → Rose old.served.reads new.served.reads)
+  monitors_fault : (f : ConfigFault) (b : Bool) → is_read_fault f.kind ≡ b
       → Refuses told old.served.reads new.served.reads C.settings.pools file (config.Fault f) → AllUntouched old new
       → WatchesTo did gave ticked probed told s old new (monitors_end b)
-  monitors_fault f true e rose refused same =
-      (rose refl, inr (record { C = C; loads = load; file = file; named = named; fault = f; refused = refused; is_unread = e }), same)
-  monitors_fault f false e rose refused same =
+  monitors_fault f true e refused same =
+      (monitors_rose told old.served.reads new.served.reads C.settings.pools file f refused e,
+      inr (record { C = C; loads = load; file = file; named = named; fault = f; refused = refused; is_unread = e }), same)
+  monitors_fault f false e refused same =
       (record { C = C; loads = load; file = file; named = named; fault = f; refused = refused; is_unread = e }, same)
 
-  pub monitors_refused : (why : ConfigError) → ((f : ConfigFault) → why ≡ config.Fault f → is_read_fault f.kind ≡ true → Rose old.served.reads new.served.reads)
-      → Refuses told old.served.reads new.served.reads C.settings.pools file why → AllUntouched old new
+  pub monitors_refused : (why : ConfigError) → Refuses told old.served.reads new.served.reads C.settings.pools file why → AllUntouched old new
       → WatchesTo did gave ticked probed told s old new (refused_monitors why)
-  monitors_refused config.Memory rose refused same = inr same
-  monitors_refused (config.Fault f) rose refused same = monitors_fault f (is_read_fault f.kind) refl (rose f refl) refused same
+  monitors_refused config.Memory refused same = inr same
+  monitors_refused (config.Fault f) refused same = monitors_fault f (is_read_fault f.kind) refl refused same
