@@ -1,5 +1,5 @@
 -- What serving while monitors probe comes to.
-use Rattle.std.proofs.Common.{◌≡◌, ℕ, Bool, true, false, List, Option, Some, None, inl, inr, refl, sym, subst, ◌∙◌}
+use Rattle.std.proofs.Common.{◌≡◌, ◌⊎◌, ◌≤◌, ◌<◌, ℕ, Bool, true, false, List, Option, Some, None, inl, inr, refl, sym, subst, ◌∙◌, arith}
 use Rattle.std.specs.Prelude.{Result, Ok, Err, IfOk, IfErr}
 use Rattle.config.specs.Loading.{CantRead}
 use Rattle.config.specs.Outcomes.{Answers}
@@ -7,7 +7,8 @@ use Rattle.config.specs.declared.fault.ConfigError.{ConfigError}
 use Rattle.config.specs.declared.fault.ConfigError.TheVariants as config
 use Rattle.config.specs.declared.fault.ConfigFault.{ConfigFault}
 use Rattle.config.specs.declared.reader.LoadedConfig as loaded
-use Rattle.pool_monitor.specs.Outcomes.{HoldsWatch, Refuses}
+use Rattle.config.specs.declared.config.PoolSettings.{PoolSettings}
+use Rattle.pool_monitor.specs.Outcomes.{HoldsFault, HoldsNone, HoldsWatch, Refuses}
 use Rattle.pool_monitor.specs.Pump.{Watch}
 use Rattle.px_outside.specs.Net.{Call}
 use Rattle.px_outside.specs.Outside.{Rose}
@@ -102,6 +103,18 @@ module _ {S T P : Type 0} (did : S → Call → S → Type 0) (gave : S → ℕ 
     of_watched s is_serve is.Monitors it = (s, is_serve, it)
 
 -- ---- the file of monitors is refused
+
+rose_later : (b m n : ℕ) → b ≤ m → Rose m n → Rose b n
+rose_later b m n le (inl less) = inl (omega (arith, le, less))
+rose_later b m n le (inr full) = inr full
+
+-- counted from before the configuration was read
+pub refuses_since : (told told' : List ℕ → Option (List ℕ)) (before between now : ℕ) (ps : List PoolSettings) (name : List ℕ) (why : ConfigError)
+    → told' ≡ told → before ≤ between → Refuses told' between now ps name why → Refuses told before now ps name why
+refuses_since told told' before between now ps name config.Memory same le it = tt
+refuses_since told told' before between now ps name (config.Fault f) same le (inl c) = inl (record { rose = rose_later before between now le c.rose; fault = c.fault })
+refuses_since told told' before between now ps name (config.Fault f) same le (inr it) =
+    inr (subst (λ (t : List ℕ → Option (List ℕ)). HoldsNone t name f ⊎ HoldsFault t ps name f) same it)
 
 module _ {S T P : Type 0} (did : S → Call → S → Type 0) (gave : S → ℕ → Type 0) (ticked : T → ℕ → T → Type 0) (probed : P → Call → P → Type 0)
     (told : List ℕ → Option (List ℕ)) (old new : WatchedOutside S T P) (s : Serve) (C : loaded.LoadedConfig) (file : List ℕ)
