@@ -1,5 +1,5 @@
 -- What is served while monitors probe keeps the core's promise.
-use Rattle.std.proofs.Common.{◌≡◌, ◌≤◌, ℕ, zero, suc, ◌==◌, List, [], ◌∷◌, ◌++◌, Bool, true, false, Option, refl, sym, subst, ◌∙◌}
+use Rattle.std.proofs.Common.{◌≡◌, ◌≤◌, ℕ, zero, suc, ◌==◌, List, [], ◌∷◌, ◌++◌, Bool, true, false, Option, Some, None, refl, sym, subst, ◌∙◌}
 use Rattle.std.specs.Prelude.{Result, Ok, Err, IfErr}
 use Rattle.core_events.specs.declared.event.Event.{Event}
 use Rattle.core_events.specs.declared.note.Note.{Note}
@@ -22,9 +22,11 @@ use Rattle.served_core.specs.Watches.{WatchedSome, WatchesConfig, with_probes}
 use Rattle.served_core.proofs.Breaking.{kept_some}
 use Rattle.served_core.proofs.Members.{StandsOf, mark_taken, moves_on}
 use Rattle.served_core.proofs.Promising.{begins_with, kept}
+use Rattle.served_core.proofs.SendsInRuns.{core_sends_in_runs}
 use Rattle.watched_loop.specs.Known.{IsKnown}
 use Rattle.watched_loop.specs.Marks.{marks_told}
-use Rattle.watched_loop.specs.Watching.{FromNets, WatchServed, WatchStopped, WatchedTurns, Watching}
+use Rattle.watched_loop.specs.Watching.{FromNets, WatchServed, WatchStopped, WatchedAsk, WatchedTurns, Watching}
+use Rattle.watched_loop.proofs.Asking.{turns_ask}
 use Rattle.watched_loop.proofs.Faults.{nets_later}
 use Rattle.watched_loop.proofs.Pumping.{turns_pump}
 use Rattle.watched_loop.proofs.Walking.{stopped_done, turns_done}
@@ -41,6 +43,17 @@ module _ {S T P : Type 0} {did : S → Call → S → Type 0} {gave : S → ℕ 
   stands : StandsOf C start.server.serving.core
   stands = ([], no_connections, (begins_with (gave start.begun) start).0)
 
+  none_linked : (link : ℕ) → None ≡ Some link → ⊥
+  none_linked link e = cc
+
+  -- nothing is pending when it begins
+  asked : (n : ℕ) (told : List Told) (last : Watching Core S T P) → WatchedTurns core_face did gave ticked probed n told First last
+      → WatchedAsk core_face did gave n First last
+  asked n told last turned =
+      turns_ask core_face core_sends_in_runs did gave (StandsOf C) (moves_on C) (HasMember C) (λ a name addr up. mark_taken C a name addr up) probed ticked
+      n told First last ready stands known turned
+      (λ c side link p. absurd (none_linked link (sym (start.begins.no_link.link c side) ∙ p.linked)))
+
   pub watches : (turns : ℕ) (last : Watching Core S T P) (end : ServeEnd) → WatchServed core_face did gave ticked probed turns First last end
       → WatchesConfig did gave ticked probed C conns turns board last.board probes last.probes net last.run.net clock last.run.clock before last.run.written end
   watches turns last end served =
@@ -52,6 +65,7 @@ module _ {S T P : Type 0} {did : S → Call → S → Type 0} {gave : S → ℕ 
         served = served;
         pumps = turns_pump core_face did gave ticked probed served.made served.told First last served.turned;
         events = kept start clock before (marks_told served.told) last.run (λ s none. all.done);
+        asks_pending = asked served.made served.told last served.turned;
       }
 
   pub stops : (turns : ℕ) (last : Watching Core S T P) (why : ServeFault) → WatchStopped core_face did gave ticked probed turns First last why
@@ -67,6 +81,7 @@ module _ {S T P : Type 0} {did : S → Call → S → Type 0} {gave : S → ℕ 
         stopped = it;
         pumps = turns_pump core_face did gave ticked probed it.made it.told First it.mid it.turned;
         events = kept start clock before (marks_told it.told) it.mid.run (λ s none. all.done);
+        asks_pending = asked it.made it.told it.mid it.turned;
         told = fell.0;
         given = fell.1;
         front = fell.2;

@@ -13,7 +13,7 @@ use Rattle.serve_loop.specs.declared.fault.ServeFault.{ServeFault}
 use Rattle.serve_loop.specs.declared.server.Server.{Server}
 use Rattle.served_core.specs.Serves.{EventsSome, NeverServed, ServedEvents, Starts, started}
 use Rattle.watched_loop.specs.Marks.{Front, marks_told}
-use Rattle.watched_loop.specs.Watching.{WatchServed, WatchStopped, Watching}
+use Rattle.watched_loop.specs.Watching.{WatchServed, WatchStopped, WatchedAsk, Watching}
 
 abbrev pub with_probes : {S T P : Type 0} → Running Core S T → Watch → P → Watching Core S T P
 with_probes run board probes = record { run = run; board = board; probes = probes }
@@ -32,6 +32,9 @@ pub record WatchesConfig {S T P : Type 0} (did : S → Call → S → Type 0) (g
   pub pumps : Pumps probed board probes served.told board' probes'
   pub events : ServedEvents did C conns (marks_told served.told) (started start clock before)
       (running last net' clock' after)
+  pub asks_pending : WatchedAsk core_face did gave served.made
+      (with_probes (started start clock before) board probes)
+      (with_probes (running last net' clock' after) board' probes')
 
 -- It was served for fewer turns than all, and the next one met a fault, or the pump before it did.
 -- The marks among its events are those of all pumps that answered, but for some of the last one's.
@@ -47,6 +50,8 @@ pub record WatchedSome {S T P : Type 0} (did : S → Call → S → Type 0) (gav
   pub pumps : Pumps probed board probes stopped.told stopped.mid.board stopped.mid.probes
   pub events : ServedEvents did C conns (marks_told stopped.told) (started start clock before)
       stopped.mid.run
+  pub asks_pending : WatchedAsk core_face did gave stopped.made
+      (with_probes (started start clock before) board probes) stopped.mid
   pub told : List Told
   pub given : List PoolMark
   pub front : Front (marks_told told) given

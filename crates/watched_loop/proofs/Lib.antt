@@ -5,3 +5,4 @@ pub mod Members
 pub mod Walking
 pub mod Pumping
 pub mod Begins
+pub mod Asking

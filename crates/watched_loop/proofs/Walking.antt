@@ -109,14 +109,14 @@ module _ {C S : Type 0} (face : Face C) (did : S → Call → S → Type 0) (gav
         conns = it.conns;
       }
 
-  is_ready : (marks : List PoolMark) (old new : Between C S) → DoneMarking marks old new → IsReady new
+  pub is_ready : (marks : List PoolMark) (old new : Between C S) → DoneMarking marks old new → IsReady new
   is_ready marks old new it = (it.made.ready, it.no_line_waits)
 
   own_mark : (m : PoolMark) (a : Around C) (l : List Step) (b : Around C) → OwnStep face (mark_event m) a l b → marks_in l ≡ m ∷ []
   own_mark m a l b it =
       ap marks_in it.steps_are ∙ ap (λ (l : List PoolMark). l ++ []) (ap marked it.gives.event_is)
 
-  mark_done : (m : Mark) (old new : Between C S) → IsReady old → face.takes old.server.serving.core (mark_event (pool_mark m))
+  pub mark_done : (m : Mark) (old new : Between C S) → IsReady old → face.takes old.server.serving.core (mark_event (pool_mark m))
       → OneMark face did gave m old new → DoneMarking (pool_mark m ∷ []) old new
   mark_done m old new ready takes one =
       done_less (λ l it. (own_walks face old.server.serving.conns (mark_event (pool_mark m)) tt (stand old.server.serving) l (stand new.server.serving) it,
@@ -166,7 +166,7 @@ module _ {C S : Type 0} (face : Face C) (did : S → Call → S → Type 0) (gav
     walks_keep conns (Asks call given ∷ l) a b it k =
         walks_keep conns l it.0 b it.2 (becomes_keeps it.1.event (record { core = a.core; links = it.1.links }) given it.0 it.1.becomes k)
 
-    done_keeps : (marks : List PoolMark) (old new : Between C S) → DoneMarking marks old new → keeps old.server.serving.core → keeps new.server.serving.core
+    pub done_keeps : (marks : List PoolMark) (old new : Between C S) → DoneMarking marks old new → keeps old.server.serving.core → keeps new.server.serving.core
     done_keeps marks old new it k = walks_keep old.server.serving.conns it.made.steps (stand old.server.serving) (stand new.server.serving) it.made.leads.0 k
 
     -- marks that are known
@@ -209,11 +209,11 @@ module _ {C S : Type 0} (face : Face C) (did : S → Call → S → Type 0) (gav
 
     module _ {P : Type 0} (probed : P → Call → P → Type 0) where
       -- what was done before a turn, and its members stay known
-      record BeginsKnown (told : List Told) (old begun : Between C S) (board' : Watch) : Type 0 where
-        done : DoneMarking (marks_told told) old begun
-        known : IsKnown Knows board'
+      pub record BeginsKnown (told : List Told) (old begun : Between C S) (board' : Watch) : Type 0 where
+        pub done : DoneMarking (marks_told told) old begun
+        pub known : IsKnown Knows board'
 
-      begins_done : (first : Bool) (told : List Told) (old begun : Between C S) (board board' : Watch) (probes probes' : P) → IsReady old
+      pub begins_done : (first : Bool) (told : List Told) (old begun : Between C S) (board board' : Watch) (probes probes' : P) → IsReady old
           → keeps old.server.serving.core → IsKnown Knows board → Begun face did gave probed first told old begun board board' probes probes'
           → BeginsKnown told old begun board'
       begins_done true told old begun board board' probes probes' ready k known it = record {
@@ -235,7 +235,7 @@ module _ {C S : Type 0} (face : Face C) (did : S → Call → S → Type 0) (gav
 
       module _ {T : Type 0} (ticked : T → ℕ → T → Type 0) where
         -- so many turns
-        record TurnsKnown (told : List Told) (old new : Watching C S T P) : Type 0 where
+        pub record TurnsKnown (told : List Told) (old new : Watching C S T P) : Type 0 where
           pub done : DoneMarking (marks_told told) (stands_between old.run) (stands_between new.run)
           pub known : IsKnown Knows new.board
 

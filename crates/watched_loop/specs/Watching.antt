@@ -7,7 +7,8 @@ use Rattle.pool_monitor.specs.declared.mark.Mark.{Mark}
 use Rattle.px_outside.specs.Net.{Call}
 use Rattle.px_outside.specs.Outside.{Rose}
 use Rattle.serve_loop.specs.Fallen.{Fell}
-use Rattle.serve_loop.specs.Server.{Behind, EndsAs, OneTurn, Running, running}
+use Rattle.serve_loop.specs.Part.{Made, stand}
+use Rattle.serve_loop.specs.Server.{AsksPending, Behind, EndsAs, OneTurn, Round, Running, running}
 use Rattle.serve_loop.specs.declared.fault.ServeEnd.{ServeEnd}
 use Rattle.serve_loop.specs.declared.fault.ServeFault.{ServeFault}
 use Rattle.serve_loop.specs.declared.fault.ServeFault.TheVariants as fault
@@ -89,6 +90,16 @@ WatchedTurns {C} {S} {T} {P} face did gave ticked probed (suc n) told old new =
     × WatchedTurns face did gave ticked probed n before old mid
     × Behind face n mid.run.server.serving
     × OneWatched face did gave ticked probed (n == 0) last mid new
+
+-- In each turn, behind all its events, each open link to which something is pending still was asked
+-- to take it until it took no more.
+abbrev pub WatchedAsk : {C S T P : Type 0} → Face C → (S → Call → S → Type 0) → (S → ℕ → Type 0)
+    → ℕ → Watching C S T P → Watching C S T P → Type 0
+WatchedAsk face did gave zero old new = new ≡ old
+WatchedAsk {C} {S} {T} {P} face did gave (suc n) old new = (mid : Watching C S T P)
+    × WatchedAsk face did gave n old mid × ((begun : Between C S) × (round : Round)
+    × Made face did gave (AsksPending face round begun.server.serving.conns)
+    (stand begun.server.serving) (stand new.run.server.serving) begun.net new.run.net)
 
 -- So many turns, with these pumps, one before each but the first.
 pub record WatchServed {C S T P : Type 0} (face : Face C) (did : S → Call → S → Type 0)
