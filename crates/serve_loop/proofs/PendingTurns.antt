@@ -44,16 +44,16 @@ module _ {C : Type 0} (face : Face C) (laws : SendsInRuns face) where
   links_quiet conns = all_quiet conns (LinkAt face conns) (link_along face conns (λ call. Unit {0}) (Quiet face laws) (quiet_along face laws conns) (λ at call on. tt))
 
   -- what a turn asked, and what stays known behind it
-  record RoundAsks (r : Round) (conns : ℕ) (a : Around C) (l : List Step) (b : Around C) : Type 0 where
-    asks : AsksPending face r conns a l b
-    known : AllAmong face b r.writers_stay
+  pub record RoundAsks (r : Round) (conns : ℕ) (a : Around C) (l : List Step) (b : Around C) : Type 0 where
+    pub asks : AsksPending face r conns a l b
+    pub known : AllAmong face b r.writers_stay
 
   four : (p q s t u : List Step) → p ++ (q ++ (s ++ (t ++ u))) ≡ (p ++ (q ++ (s ++ t))) ++ u
   four p q s t u =
       ap (λ (x : List Step). p ++ (q ++ x)) (sym (append_assoc s t u)) ∙ ap (λ (x : List Step). p ++ x) (sym (append_assoc q (s ++ t) u))
       ∙ sym (append_assoc p (q ++ (s ++ t)) u)
 
-  round_asks : (r : Round) (conns : ℕ) (a : Around C) (l : List Step) (b : Around C) → Rounds face r conns a l b → face.stands a.core
+  pub round_asks : (r : Round) (conns : ℕ) (a : Around C) (l : List Step) (b : Around C) → Rounds face r conns a l b → face.stands a.core
       → AllAmong face a r.writers_were → RoundAsks r conns a l b
   round_asks r conns a l b t s known =
       let t1 = t.5 in
