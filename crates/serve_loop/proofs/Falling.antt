@@ -1,5 +1,5 @@
 -- A turn up to where it broke off.
-use Rattle.std.proofs.Common.{◌≡◌, ℕ, List, Option, ◌++◌, Bool, Some, None, inl, inr, refl}
+use Rattle.std.proofs.Common.{ℕ, List, Option, ◌++◌, Bool, Some, None, inl, inr, refl}
 use Rattle.px_outside.specs.declared.answers.ReadyAt.{ReadyAt}
 use Rattle.px_outside.specs.Net.{Call}
 use Rattle.serve_loop.specs.declared.serving.Serving.{Serving}
@@ -8,15 +8,9 @@ use Rattle.core_events.specs.Face.{Face}
 use Rattle.serve_loop.specs.Fallen.{FellAt, FellTick, IsFallen}
 use Rattle.serve_loop.specs.Part.{stand, Part}
 use Rattle.serve_loop.specs.Server.{Waited}
-use Rattle.serve_loop.specs.Turn.{IsOwnUntil, IsUntil, WaitsFor, earlier}
-use Rattle.serve_loop.specs.Walk.{Around}
+use Rattle.serve_loop.specs.Turn.{IsUntil, WaitsFor}
 use Rattle.serve_loop.proofs.Breaking.{broke_then}
 use Rattle.serve_loop.proofs.Walking.{begin_walks, waits_walks}
-
--- no later than at the limit
-pub until_by : {C : Type 0} {face : Face C} {conns : ℕ} {a : Around C} {slots links : List ℕ} {limit : Option ℕ} (own until : ℕ)
-    → IsOwnUntil face conns a slots links own → until ≡ earlier own limit → IsUntil face conns a slots links limit until
-until_by own until is_own is = (own, is_own, is)
 
 -- in its wait
 pub fell_waiting : {C S : Type 0} {face : Face C} {did : S → Call → S → Type 0} {gave : S → ℕ → Type 0} {short : Bool} (slots links : List ℕ) (limit : Option ℕ)

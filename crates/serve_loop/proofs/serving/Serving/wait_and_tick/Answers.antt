@@ -1,14 +1,16 @@
 use Rattle.std.proofs.Common.{Some, None, refl}
-use Rattle.serve_loop.specs.Turn.{Ticks}
+use Rattle.serve_loop.specs.Part.{stand}
+use Rattle.serve_loop.specs.Turn.{IsUntil, Ticks}
 use Rattle.serve_loop.proofs.Exits.{at_fault}
-use Rattle.serve_loop.proofs.Falling.{fell_ticking, fell_waiting, until_by}
+use Rattle.serve_loop.proofs.Falling.{fell_ticking, fell_waiting}
 use Rattle.serve_loop.proofs.Compose.{part_at, part_then}
 use Rattle.serve_loop.proofs.serving.Serving.wait_and_tick.Goals as goal
 
 pub returns-clause-waited : goal.returns-clause-waited
 returns-clause-waited g c =
     let own = rw (c.as_slice.ensures, c.as_slice-2.ensures) at c.until.ensures in
-    let is_until = until_by c.until.result c.earlier-until.result own c.earlier-until.ensures in (
+    let is_until : IsUntil g.C.EventCore.face c.args.self.now.conns (stand c.args.self.now) c.args.slots.now c.args.links.now c.args.limit
+    c.earlier-until.result = (c.until.result, own, c.earlier-until.ensures) in (
       c.now-now.result,
       c.now-now.ensures.gave,
       record {
@@ -21,7 +23,8 @@ returns-clause-waited g c =
 pub returns-in_err-wait-clause-fell : goal.returns-in_err-wait-clause-fell
 returns-in_err-wait-clause-fell g c =
     let own = rw (c.as_slice.ensures, c.as_slice-2.ensures) at c.until.ensures in
-    let is_until = until_by c.until.result c.earlier-until.result own c.earlier-until.ensures in
+    let is_until : IsUntil g.C.EventCore.face c.args.self.now.conns (stand c.args.self.now) c.args.slots.now c.args.links.now c.args.limit
+    c.earlier-until.result = (c.until.result, own, c.earlier-until.ensures) in
     at_fault _ c.from_residual.result c.in_err-wait.field-0.0 c.from_residual.ensures.1 (record {
       moment = None;
       asked = refl;
@@ -31,7 +34,8 @@ returns-in_err-wait-clause-fell g c =
 pub returns-in_err-tick-clause-fell : goal.returns-in_err-tick-clause-fell
 returns-in_err-tick-clause-fell g c =
     let own = rw (c.as_slice.ensures, c.as_slice-2.ensures) at c.until.ensures in
-    let is_until = until_by c.until.result c.earlier-until.result own c.earlier-until.ensures in
+    let is_until : IsUntil g.C.EventCore.face c.args.self.now.conns (stand c.args.self.now) c.args.slots.now c.args.links.now c.args.limit
+    c.earlier-until.result = (c.until.result, own, c.earlier-until.ensures) in
     at_fault _ c.from_residual-in_err-tick.result c.in_err-tick.field-0.0 c.from_residual-in_err-tick.ensures.1 (record {
       moment = Some c.now-now.result;
       asked = c.now-now.ensures.gave;
