@@ -3,7 +3,7 @@
 use crate::asked::{CONFIG, MONITORS};
 use crate::pumps::{fails, net_of};
 use proxy::{Status, serve_watched};
-use px_bytes::{M, Pairs, Text, Texts};
+use px_bytes::{M, Pairs, Text, Texts, read_decimal};
 use px_outside::{Counts, MemClock, MemFiles, MemNet, MemSink};
 use questions::Question;
 
@@ -67,10 +67,22 @@ fn words_of(question: &mut Question<'_>) -> M<Texts> {
 fn moments(question: &mut Question<'_>) -> M<Counts> {
     let mut moments = Counts::new(question.alloc);
     for _ in 0..question.left() {
-        let moment = question.number(u64::MAX);
-        moments.push(moment)?;
+        let word = question.word();
+        if !word.is_empty() {
+            moments.push(moment_of(question, word))?;
+        }
     }
     Ok(moments)
+}
+
+fn moment_of(question: &mut Question<'_>, word: &str) -> u64 {
+    match read_decimal(word.as_bytes(), u64::MAX) {
+        Some(moment) => moment,
+        None => {
+            question.unknown();
+            0
+        }
+    }
 }
 
 fn say_run(question: &mut Question<'_>, mut outside: Outside) {

@@ -1,6 +1,6 @@
 -- What a fault comes of, where there are two nets.
 use Rattle.std.proofs.Common.{◌≡◌, ℕ, ◌≤◌, inl, inr, refl, sym, subst, arith}
-use Rattle.std.specs.Prelude.{Result, IsErrOf}
+use Rattle.std.specs.Prelude.{Result, Err, IsErrOf}
 use Rattle.px_outside.specs.Outside.{Rose}
 use Rattle.px_outside.specs.declared.failed.Failed.{Failed}
 use Rattle.px_outside.specs.declared.failed.Failed.TheVariants as failed
@@ -20,9 +20,10 @@ of_server n n' p p' s s' fault.Write rose = rose
 of_server n n' p p' s s' fault.Memory free = tt
 
 -- where the probes' net failed
-pub of_pump : (n n' p p' s s' : ℕ) (why : Failed) → (why ≡ failed.Failed → Rose p p') → FromNets n n' p p' s s' (fault_of why)
-of_pump n n' p p' s s' failed.Failed rose = inr (rose refl)
-of_pump n n' p p' s s' failed.Memory rose = tt
+pub of_pump : (n n' p p' s s' : ℕ) (why : Failed) (r : Result (Unit {0}) Failed) → r ≡ Err why → (IsErrOf r failed.Failed → Rose p p')
+    → FromNets n n' p p' s s' (fault_of why)
+of_pump n n' p p' s s' failed.Failed r is rose = inr (rose (subst (λ x. IsErrOf x failed.Failed) (sym is) refl))
+of_pump n n' p p' s s' failed.Memory r is rose = tt
 
 -- where no count fell before
 pub nets_later : (a m n b q r c o d : ℕ) (why : ServeFault) → a ≤ m → b ≤ q → c ≤ o → FromNets m n q r o d why → FromNets a n b r c d why

@@ -33,7 +33,7 @@ returns-in_err-pump-clause-fell g c =
 pub returns-in_err-pump-clause-fails : goal.returns-in_err-pump-clause-fails
 returns-in_err-pump-clause-fails g c =
     at_fault _ c.from_residual.result (fault_of c.in_err-pump.field-0.0) c.from_residual.ensures.1
-    (of_pump _ _ _ _ _ _ c.in_err-pump.field-0.0 c.in_err-pump.ensures.fails)
+    (of_pump _ _ _ _ _ _ c.in_err-pump.field-0.0 c.pump.result c.in_err-pump.was c.pump.ensures.fails)
 
 pub returns-in_err-give_marks-clause-fell : goal.returns-in_err-give_marks-clause-fell
 returns-in_err-give_marks-clause-fell g c =
