@@ -55,7 +55,7 @@ module _ {C S : Type 0} (face : Face C) (laws : SendsInRuns face) (did : S → C
       begins_among false told old begun board board' probes probes' ready k known it among =
           let t = it.0 in
           let stays = pumped_known Knows probed board t.moment probes probes' board' t.marks it.2.pumped known in
-          subst Among (sym it.2.limited) (marks_among t.marks old it.2.marked ready k stays.marks it.2.gives among)
+          subst Among (sym it.2.limited) (marks_among t.marks old it.2.marked ready k stays.marks_known it.2.gives among)
 
       module _ {T : Type 0} (ticked : T → ℕ → T → Type 0) where
         record Asked (n : ℕ) (old new : Watching C S T P) : Type 0 where

@@ -80,7 +80,7 @@ module _ (Knows : List ℕ → Addr → Type 0) (monitors : List Monitor) where
 -- A pump's marks are of known members, which stay known.
 pub record StaysKnown (Knows : List ℕ → Addr → Type 0) (w' : Watch) (marks : List Mark) : Type 0 where
   pub known : IsKnown Knows w'
-  pub marks : MarksKnown Knows marks
+  pub marks_known : MarksKnown Knows marks
 
 pub pumped_known : {S : Type 0} (Knows : List ℕ → Addr → Type 0) (did : S → Call → S → Type 0) (w : Watch) (moment : ℕ) (old new : S) (w' : Watch)
     (marks : List Mark) → Pumped did w moment old new w' marks → IsKnown Knows w → StaysKnown Knows w' marks
@@ -95,5 +95,5 @@ pumped_known Knows did w moment old new w' marks it k =
     record {
       known = subst (λ (xs : List Monitor). MembersKnown Knows xs w'.members) (sym it.same)
           (each_known Knows ms (IsMarked ms moment) (marked_same Knows ms moment) it.between.members marks w'.members it.marked sent);
-      marks = marked_known Knows ms moment it.between.members marks w'.members it.marked sent;
+      marks_known = marked_known Knows ms moment it.between.members marks w'.members it.marked sent;
     }

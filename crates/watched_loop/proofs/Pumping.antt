@@ -18,7 +18,7 @@ begun_pumps : {C S P : Type 0} (face : Face C) (did : S → Call → S → Type 
 begun_pumps face did gave probed true told old new w v p q it =
     subst (λ (ts : List Told). Pumps probed w p ts v q) (sym it.none_told) (it.same_board, it.same_probes)
 begun_pumps face did gave probed false told old new w v p q it =
-    subst (λ (ts : List Told). Pumps probed w p ts v q) (sym it.1) (v, q, it.2.pumped, refl, refl)
+    subst (λ (ts : List Told). Pumps probed w p ts v q) (sym it.1) (v, q, it.2.pumped, (refl, refl))
 
 pub turns_pump : {C S T P : Type 0} (face : Face C) (did : S → Call → S → Type 0) (gave : S → ℕ → Type 0) (ticked : T → ℕ → T → Type 0)
     (probed : P → Call → P → Type 0) (n : ℕ) (told : List Told) (old new : Watching C S T P) → WatchedTurns face did gave ticked probed n told old new

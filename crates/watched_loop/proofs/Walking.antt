@@ -195,7 +195,7 @@ module _ {C S : Type 0} (face : Face C) (did : S → Call → S → Type 0) (gav
     marks_fell why [] old new ready k known it = absurd it
     marks_fell why (m ∷ marks) old new ready k known (inl fell) =
         let it = fell ready.0 ready.1 (takes old.server.serving.core m.pool m.member m.up k known.0) in
-        one_fell why m (map pool_mark marks) old new it.0 it.1
+        one_fell why m (map pool_mark marks) old new it.0 (it.1, it.2)
     marks_fell why (m ∷ marks) old new ready k known (inr it) =
         let mid = it.0 in
         let one = mark_done m old mid ready (takes old.server.serving.core m.pool m.member m.up k known.0) it.1 in
@@ -225,7 +225,7 @@ module _ {C S : Type 0} (face : Face C) (did : S → Call → S → Type 0) (gav
           let t = it.0 in
           let pump = it.2 in
           let stays = pumped_known Knows probed board t.moment probes probes' board' t.marks pump.pumped known in
-          let done = marks_done t.marks old pump.marked ready k stays.marks pump.gives in
+          let done = marks_done t.marks old pump.marked ready k stays.marks_known pump.gives in
           record {
             done = subst (λ (ts : List Told). DoneMarking (marks_told ts) old begun) (sym it.1)
                 (subst (λ (l : List PoolMark). DoneMarking l old begun) (sym (append-nil (map pool_mark t.marks)))
@@ -287,7 +287,7 @@ module _ {C S : Type 0} (face : Face C) (did : S → Call → S → Type 0) (gav
         before_fell false why old new ready k known (inr it) =
             let t = it.0 in
             let stays = pumped_known Knows probed old.board t.moment old.probes it.2 it.1 t.marks it.4 known in
-            let fell = marks_fell why t.marks (stands_between old.run) (stands_between new.run) ready k stays.marks it.5 in (
+            let fell = marks_fell why t.marks (stands_between old.run) (stands_between new.run) ready k stays.marks_known it.5 in (
               t ∷ [],
               fell.0,
               record { rest = fell.1.rest; all_are = append-nil (map pool_mark t.marks) ∙ fell.1.all_are },
