@@ -57,7 +57,14 @@ fn words_of(question: &mut Question<'_>) -> M<Texts> {
     let alloc = question.alloc;
     let turns = question.word().as_bytes();
     let mut words = Texts::new(alloc);
-    for word in [b"serve".as_slice(), CONFIG, b"--monitors", MONITORS, b"--turns", turns] {
+    for word in [
+        b"serve".as_slice(),
+        CONFIG,
+        b"--monitors",
+        MONITORS,
+        b"--turns",
+        turns,
+    ] {
         words.push(Text::new(alloc, word)?)?;
     }
     Ok(words)

@@ -122,9 +122,11 @@ module _ {S T P : Type 0} (did : S → Call → S → Type 0) (gave : S → ℕ 
   monitors_fault : (f : ConfigFault) (b : Bool) → is_read_fault f.kind ≡ b
       → Refuses told old.served.reads new.served.reads C.settings.pools file (config.Fault f) → AllUntouched old new
       → WatchesTo did gave ticked probed told s old new (monitors_end b)
-  monitors_fault f true e refused same =
-      (monitors_rose told old.served.reads new.served.reads C.settings.pools file f refused e,
-      inr (record { C = C; loads = load; file = file; named = named; fault = f; refused = refused; is_unread = e }), same)
+  monitors_fault f true e refused same = (
+    monitors_rose told old.served.reads new.served.reads C.settings.pools file f refused e,
+    inr (record { C = C; loads = load; file = file; named = named; fault = f; refused = refused; is_unread = e }),
+    same,
+  )
   monitors_fault f false e refused same =
       (record { C = C; loads = load; file = file; named = named; fault = f; refused = refused; is_unread = e }, same)
 

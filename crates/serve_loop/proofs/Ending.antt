@@ -49,8 +49,11 @@ turns_walk {C} {S} {T} face did gave ticked (suc n) old new turns ready none =
     let walks = rounds_walk face turn.round conns b ys c two.made.leads in
     let none = walks_unmarked face conns ys b c walks (rounds_own face turn.round conns b ys c two.made.leads) in
     record {
-      made = made_then one.made two.made (walks_append face old.server.serving.conns xs ys a b c one.made.leads.0
-          (subst (λ (conns : ℕ). Walks face conns b ys c) one.conns walks), none_behind xs ys one.made.leads.1 none);
+      made = made_then one.made two.made (
+        walks_append face old.server.serving.conns xs ys a b c one.made.leads.0
+            (subst (λ (conns : ℕ). Walks face conns b ys c) one.conns walks),
+        none_behind xs ys one.made.leads.1 none,
+      );
       told = two.told ∙ ap (λ (o : Option (List ℕ)). told_more o (text_in ys)) one.told ∙ told_then old.written (text_in xs) (text_in ys)
           ∙ ap (λ (text : List ℕ). told_more old.written text) (sym (text_append xs ys));
       no_line_waits = two.no_line_waits;

@@ -163,8 +163,8 @@ done_then {why = why} {marks = marks} {more = more} {before = before} {mid} {aft
             is ∙ ap (λ (o : Option (List ℕ)). told_more o text) one.told ∙ told_then before (text_in xs) text) two.lines);
       },
       ap marks_in (append_assoc xs two.walk.steps (steps_of two.walk.broken)) ∙ marks_append xs (two.walk.steps ++ steps_of two.walk.broken)
-      ∙ ap (λ (l : List PoolMark). l ++ marks_in (two.walk.steps ++ steps_of two.walk.broken)) one.made.leads.1
-      ∙ ap (λ (l : List PoolMark). marks ++ l) are,
+          ∙ ap (λ (l : List PoolMark). l ++ marks_in (two.walk.steps ++ steps_of two.walk.broken)) one.made.leads.1
+          ∙ ap (λ (l : List PoolMark). marks ++ l) are,
     )
 
 pub walked_some : {C S T : Type 0} (face : Face C) (did : S → Call → S → Type 0) (gave : S → ℕ → Type 0) (why : ServeFault) (marks more : List PoolMark)

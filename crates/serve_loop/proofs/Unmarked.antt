@@ -160,11 +160,11 @@ pub order_own : {C : Type 0} (face : Face C) (conns : ℕ) (moment : Option ℕ)
 order_own face conns None slots links limit a l it = wait_unmarked it.until l it.waits
 order_own face conns (Some now) slots links limit a l it = elim it [
   | inl x ↦ subst (AllByRecursion IsUnmarked) (sym x.all_are)
-        (all_append IsUnmarked x.wait x.tick (waits_own face conns slots links limit x.until x.listed a x.wait x.waited x.waits)
-        (tick_unmarked now x.tick x.fell.tick))
+      (all_append IsUnmarked x.wait x.tick (waits_own face conns slots links limit x.until x.listed a x.wait x.waited x.waits)
+      (tick_unmarked now x.tick x.fell.tick))
   | inr x ↦ subst (AllByRecursion IsUnmarked) (sym x.all_are)
-        (all_append IsUnmarked x.begin x.asks (begin_own face conns now slots links limit x.until x.listed a x.begin x.ticked x.begins)
-        (asks_unmarked x.asks x.are_asks))
+      (all_append IsUnmarked x.begin x.asks (begin_own face conns now slots links limit x.until x.listed a x.begin x.ticked x.begins)
+      (asks_unmarked x.asks x.are_asks))
 ]
 
 front_own : (xs ys : List Step) → AllByRecursion IsUnmarked (xs ++ ys) → AllByRecursion IsUnmarked xs

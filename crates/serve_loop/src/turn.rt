@@ -58,8 +58,14 @@ impl<C: EventCore + Drop> Server<C> {
         ensures faults_never_fall { N.faults net.old ≤ N.faults net.new }
         ensures clock_faults_never_fall { T.faults clock.old ≤ T.faults clock.new }
     {
-        self.serving
-            .wait_and_tick(net, clock, &self.slots, &self.links, self.limit, &mut self.listed)?;
+        self.serving.wait_and_tick(
+            net,
+            clock,
+            &self.slots,
+            &self.links,
+            self.limit,
+            &mut self.listed,
+        )?;
         let alloc = self.serving.alloc;
         let slots = due_slots(alloc, &self.slots, &self.listed)?;
         let links = due_links(alloc, &self.links, &self.listed)?;

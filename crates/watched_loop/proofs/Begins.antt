@@ -11,9 +11,11 @@ use Rattle.watched_loop.specs.Watching.{Begun, BeginFell, PumpsAndMarks, WatchFe
 module _ {C S P : Type 0} (face : Face C) (did : S → Call → S → Type 0) (gave : S → ℕ → Type 0) (probed : P → Call → P → Type 0) (first : Bool) where
   pub begins_first : (old new : Between C S) (board : Watch) (probes : P) → first ≡ true → new ≡ with_limit 0 old
       → (told : List Told) × Begun face did gave probed first told old new board board probes probes
-  begins_first old new board probes is limited =
-      ([], subst (λ (b : Bool). Begun face did gave probed b [] old new board board probes probes) (sym is)
-      (record { none_told = refl; limited = limited; same_board = refl; same_probes = refl }))
+  begins_first old new board probes is limited = (
+    [],
+    subst (λ (b : Bool). Begun face did gave probed b [] old new board board probes probes) (sym is)
+        (record { none_told = refl; limited = limited; same_board = refl; same_probes = refl }),
+  )
 
   pub begins_later : {old new : Between C S} {board board' : Watch} {probes probes' : P} → first ≡ false
       → (t : Told) × PumpsAndMarks face did gave probed t old new board board' probes probes'

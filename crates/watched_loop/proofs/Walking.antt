@@ -119,8 +119,10 @@ module _ {C S : Type 0} (face : Face C) (did : S → Call → S → Type 0) (gav
   pub mark_done : (m : Mark) (old new : Between C S) → IsReady old → face.takes old.server.serving.core (mark_event (pool_mark m))
       → OneMark face did gave m old new → DoneMarking (pool_mark m ∷ []) old new
   mark_done m old new ready takes one =
-      done_less (λ l it. (own_walks face old.server.serving.conns (mark_event (pool_mark m)) tt (stand old.server.serving) l (stand new.server.serving) it,
-      own_mark (pool_mark m) (stand old.server.serving) l (stand new.server.serving) it)) (one.done ready.0 ready.1 takes)
+      done_less (λ l it. (
+        own_walks face old.server.serving.conns (mark_event (pool_mark m)) tt (stand old.server.serving) l (stand new.server.serving) it,
+        own_mark (pool_mark m) (stand old.server.serving) l (stand new.server.serving) it,
+      )) (one.done ready.0 ready.1 takes)
 
   turn_done : (now : ℕ) (old new : Between C S) → IsReady old
       → OneTurn face did gave now old.server new.server old.net new.net old.written new.written → DoneMarking [] old new
@@ -129,8 +131,8 @@ module _ {C S : Type 0} (face : Face C) (did : S → Call → S → Type 0) (gav
       let a = stand old.server.serving in
       let b = stand new.server.serving in
       done_less (λ l it. (
-          let walks = rounds_walk face turn.round conns a l b it in
-          (walks, walks_unmarked face conns l a b walks (rounds_own face turn.round conns a l b it)))) (turn.done ready.0 ready.1)
+      let walks = rounds_walk face turn.round conns a l b it in
+      (walks, walks_unmarked face conns l a b walks (rounds_own face turn.round conns a l b it)))) (turn.done ready.0 ready.1)
 
   -- all that was done, where a fault came behind it
   whole_some : (why : ServeFault) (marks : List PoolMark) (old new : Between C S) → DoneMarking marks old new → SomeMarking why marks old new

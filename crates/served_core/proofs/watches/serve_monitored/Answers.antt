@@ -58,12 +58,15 @@ returns-clause-fails g c =
 
 pub returns-in_err-core-clause-stopped : goal.returns-in_err-core-clause-stopped
 returns-in_err-core-clause-stopped g c =
-    at_fault _ c.from_residual.result OutOfMemory c.from_residual.ensures.1 (inl (refl, record {
-      no_moment = refl;
-      wrote = record { count = 0; written = told_nothing (g.K.Sink.written c.args.journal.now) };
-      all_written = λ e. cc;
-      listens = inl refl;
-    }))
+    at_fault _ c.from_residual.result OutOfMemory c.from_residual.ensures.1 (inl (
+      refl,
+      record {
+        no_moment = refl;
+        wrote = record { count = 0; written = told_nothing (g.K.Sink.written c.args.journal.now) };
+        all_written = λ e. cc;
+        listens = inl refl;
+      },
+    ))
 
 pub returns-in-Err-clause-stopped : goal.returns-in-Err-clause-stopped
 returns-in-Err-clause-stopped g c =
@@ -72,12 +75,15 @@ returns-in-Err-clause-stopped g c =
     let after = g.K.Sink.written c.write_start-wrote.new.journal in
     let notes = c.as_slice.ensures ∙ c.in_ok-core.ensures.notes in
     let fails = err_is _ c.write_start-wrote.ensures.fails c.in-Err.is in
-    inl (refl, record {
-      no_moment = refl;
-      wrote = subst (λ (l : List Note). WroteSome (note_lines l) before after) notes (on_err _ c.write_start-wrote.ensures.some c.in-Err.is);
-      all_written = never_net (g.K.Sink.faults c.args.journal.now) (g.K.Sink.faults c.write_start-wrote.new.journal) why fails;
-      listens = inl refl;
-    })
+    inl (
+      refl,
+      record {
+        no_moment = refl;
+        wrote = subst (λ (l : List Note). WroteSome (note_lines l) before after) notes (on_err _ c.write_start-wrote.ensures.some c.in-Err.is);
+        all_written = never_net (g.K.Sink.faults c.args.journal.now) (g.K.Sink.faults c.write_start-wrote.new.journal) why fails;
+        listens = inl refl;
+      },
+    )
 
 pub returns-in_err-server-clause-stopped : goal.returns-in_err-server-clause-stopped
 returns-in_err-server-clause-stopped g c =
@@ -87,12 +93,15 @@ returns-in_err-server-clause-stopped g c =
     let notes = c.as_slice.ensures ∙ c.in_ok-core.ensures.notes in
     let written = on_ok _ c.write_start-wrote.ensures.written c.in_default.is ∙ ap (λ (l : List Note). told_more before (note_lines l)) notes in
     let whole : length text ≤ length text = omega arith in
-    at_fault _ c.from_residual-in_err-server.result why c.from_residual-in_err-server.ensures.1 (inl (refl, record {
-      no_moment = refl;
-      wrote = record { count = length text; written = written ∙ ap (told_more before) (sym (take_all (length text) text whole)) };
-      all_written = λ e. written;
-      listens = inr (c.in_ok-core.core, c.in_ok-core.ensures.stands, c.in_err-server.ensures.broke);
-    }))
+    at_fault _ c.from_residual-in_err-server.result why c.from_residual-in_err-server.ensures.1 (inl (
+      refl,
+      record {
+        no_moment = refl;
+        wrote = record { count = length text; written = written ∙ ap (told_more before) (sym (take_all (length text) text whole)) };
+        all_written = λ e. written;
+        listens = inr (c.in_ok-core.core, c.in_ok-core.ensures.stands, c.in_err-server.ensures.broke);
+      },
+    ))
 
 pub returns-clause-stopped : goal.returns-clause-stopped
 returns-clause-stopped g c =

@@ -8,13 +8,16 @@ use Rattle.watched_loop.proofs.watching.watched_turn.Goals as goal
 pub returns-clause-turned : goal.returns-clause-turned
 returns-clause-turned g c =
     let begun = c.in_ok-begin.ensures.begun in
-    on_ok_weaker c.turn.result (λ t. (begun.0, record {
-      begun = between c.begin.new.server c.begin.new.net (g.K.Sink.written c.begin.new.journal);
-      begins = begun.1;
-      now = t.0;
-      moment = t.1;
-      turn = t.2;
-    })) c.turn.ensures.turned
+    on_ok_weaker c.turn.result (λ t. (
+      begun.0,
+      record {
+        begun = between c.begin.new.server c.begin.new.net (g.K.Sink.written c.begin.new.journal);
+        begins = begun.1;
+        now = t.0;
+        moment = t.1;
+        turn = t.2;
+      },
+    )) c.turn.ensures.turned
 
 pub returns-clause-fell : goal.returns-clause-fell
 returns-clause-fell g c =
