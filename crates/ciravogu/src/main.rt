@@ -2,13 +2,16 @@
 #![tactic(auto)]
 
 mod serve_real;
+mod show_real;
 mod test_real;
 
 use crate::serve_real::serve_real;
+use crate::show_real::show_real;
 use crate::test_real::test_real;
 use proxy::{Status, UsageFault, offline, serve_of};
 use px_bytes::{Text, Texts};
 use px_real::{RealFiles, StdoutSink};
+use shown_runs::begins_show;
 use std::alloc::Global;
 use std::io::{self, ErrorKind};
 use std::process::ExitCode;
@@ -42,6 +45,9 @@ fn run(rt: &HostRuntime) -> io::Result<Status> {
 fn run_words(rt: &HostRuntime, words: &Texts) -> io::Result<Status> {
     if begins_test(words.as_slice()) {
         return Ok(test_real(rt, words));
+    }
+    if begins_show(words.as_slice()) {
+        return Ok(show_real(rt, words));
     }
     match serve_of(rt.alloc(), words) {
         Ok(serve) => Ok(serve_real(rt, words, serve.journal)),

@@ -1,12 +1,12 @@
 // What is told of a question that doesn't hold.
 
 use crate::failure::FailedRun;
-use crate::quoted::quoted;
 use crate::shown::{
     add_agreeing, add_both, add_line, addr_or_none, cause_text, joined, quoted_or, side_name, wish,
 };
 use core_events::Cause;
 use px_bytes::{Addr, M, Side, Text, Texts};
+use quoted_bytes::quoted;
 use std::alloc::Global;
 use test_past::{asked_by, finish_of, is_over, is_wished, next_line, row_told};
 use test_text::{Expectation, Wished, WishedRow};

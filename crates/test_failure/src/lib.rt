@@ -3,7 +3,6 @@
 
 mod asked;
 mod failure;
-mod quoted;
 mod shown;
 mod stopped;
 mod way;

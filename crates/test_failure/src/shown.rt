@@ -1,9 +1,9 @@
 // What the lines of a failure show.
 
-use crate::quoted::quoted;
 use core_events::{Cause, Note};
 use journal_text::write_note;
 use px_bytes::{Addr, M, Side, Text, Texts, print_addr};
+use quoted_bytes::quoted;
 use std::alloc::Global;
 use test_text::Wished;
 

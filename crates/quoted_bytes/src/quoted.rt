@@ -1,8 +1,8 @@
 // Bytes as a word of Tcl in quotes.
 
 ghost use Rattle.std.specs.Prelude.{◌≡◌, ◌++◌, IfOk, OnOk, option_map};
-ghost use Rattle.test_failure.specs.Quoted.{by_digits, ends_in_digits, is_plain, quoted, short};
-ghost use Rattle.test_failure.specs.Quoted.{shown};
+ghost use Rattle.quoted_bytes.specs.Quoted.{by_digits, ends_in_digits, is_plain, quoted, short};
+ghost use Rattle.quoted_bytes.specs.Quoted.{shown};
 
 use px_bytes::{M, Text, print_hex};
 use std::alloc::Global;
@@ -57,7 +57,7 @@ fn push_byte(alloc: Global, text: &mut Text, behind_digits: bool, byte: u8) -> M
 }
 
 /// A word of Tcl in quotes that is these bytes.
-pub(crate) fn quoted(alloc: Global, bytes: &[u8]) -> M<Text>
+pub fn quoted(alloc: Global, bytes: &[u8]) -> M<Text>
     ensures { IfOk result (λ text. text ≡ quoted bytes.now) }
 {
     let mut text = Text::new(alloc, b"\"")?;

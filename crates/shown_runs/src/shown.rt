@@ -1,0 +1,62 @@
+// All that is shown of a schedule.
+
+ghost use Rattle.std.specs.Prelude.{◌≡◌, ◌<◌, IfOk, []};
+ghost use Rattle.run_config.specs.declared.config.Config.{Config};
+ghost use Rattle.shown_runs.specs.Shown.{IsShown, Shows};
+
+use crate::run::ShownRun;
+use px_bytes::{M, Steps, Text};
+use run_config::Config;
+use std::alloc::Global;
+use std::marker::Brand;
+use std::sync::ledger::{Blank, Ledger};
+
+/// What is shown, and the line that tells the first faulty line, if there is one.
+#[derive(Drop)]
+pub struct ShownText {
+    pub text: Text,
+    pub fault: Option<Text>,
+}
+
+/// Shows a schedule, by a core of this configuration.
+pub(crate) fn shown(
+    alloc: Global,
+    config: Config,
+    only: Option<u32>,
+    schedule: &[u8],
+) -> M<ShownText>
+    ensures { IfOk result (IsShown config only schedule.now) }
+{
+    let run = ShownRun::new(alloc, config, only)?;
+    counted::<Brand>(alloc, run, only, schedule, Blank::new(1))
+}
+
+// By steps that this ledger counts.
+fn counted<L: Ledger>(
+    alloc: Global,
+    run: ShownRun,
+    only: Option<u32>,
+    schedule: &[u8],
+    blank: Blank,
+) -> M<ShownText>
+    requires name { blank.name ≡ L.name }
+    requires parts { blank.parts ≡ L.parts }
+    requires some { 0 < blank.parts }
+    ensures { IfOk result (λ shown. (C : Config) → Shows C only [] 0 run
+        → IsShown C only schedule.now shown) }
+{
+    let mut run = run;
+    let mut steps = Steps::<L>::new(blank);
+    match run.lines(alloc, only, schedule, &mut steps) {
+        Ok(fault) => {
+            let ShownRun { text, core, notes } = run;
+            drop(core);
+            drop(notes);
+            Ok(ShownText { text, fault })
+        }
+        Err(why) => {
+            drop(run);
+            Err(why)
+        }
+    }
+}
