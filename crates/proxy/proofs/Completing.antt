@@ -137,7 +137,7 @@ module _ (words : List (List ℕ)) (told : List ℕ → Option (List ℕ)) (old 
   -- a schedule of which each line spells an event has no faulty line
   module _ (m : MayReplay words told rb rn b n) (K : core.Config) (runs : Runs told m.named K m.schedule) where
     refusal : MeetsFault K m.schedule old new ⊎ MeetsRefusal K m.schedule old new → (Schedule ≡ Done) ⊎ (Schedule ≡ Memory) ⊎ ((Schedule ≡ Schedule) × IsRefused told m.named m.schedule old new)
-    refusal (inl f) = absurd (whole_has_no_fault m.schedule m.text m.rest f.text f.rest m.number f.number m.events _ f.kind m.reads m.lines_are m.is_end f.schedule_is f.reports.reads f.faulty)
+    refusal (inl f) = absurd (whole_has_no_fault m.schedule f.text f.rest m.number f.number m.events _ f.kind m.reads f.schedule_is f.reports.reads f.faulty)
     refusal (inr r) = inr (inr (refl, (K, runs, r)))
 
   replays : (end : End) (m : MayReplay words told rb rn b n) → ReplaysFiles m.named told old new rb rn b n end → (end ≡ Done) ⊎ (end ≡ Memory) ⊎ ((end ≡ Schedule) × IsRefused told m.named m.schedule old new)

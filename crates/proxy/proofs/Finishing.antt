@@ -1,6 +1,6 @@
 -- From what stands and the end of a report to what a replay comes to.
-use Rattle.std.proofs.Common.{◌≡◌, inl, inr, refl, ap, subst, ◌∙◌, ℕ, ◌+◌, ◌≤◌, List, []}
-use Rattle.std.proofs.Common.{◌++◌, length, Option, Result, Ok, Err, IfOk, arith}
+use Rattle.std.proofs.Common.{◌≡◌, inl, inr, refl, sym, ap, subst, ◌∙◌, ℕ, ◌+◌, ◌≤◌, List, []}
+use Rattle.std.proofs.Common.{◌++◌, append-nil, length, Option, Result, Ok, Err, IfOk, arith}
 use Rattle.px_bytes.specs.declared.memory.Memory as want
 use Rattle.px_outside.specs.Outside.{told_more, Rose}
 use Rattle.run_config.specs.declared.config.Config as configured
@@ -82,10 +82,10 @@ pub done_replayed : (C : configured.Config) (schedule : List ℕ) (r : Replay) (
 done_replayed C schedule r last old mid new before between now res k h i f =
     let s = k.stands in
     let is : (l : List ℕ) → l ≡ end_text r.events → l ≡ end_text (length s.past) = λ l e. e ∙ ap end_text s.count in
-    ended C schedule r k.text k.rest k.number last old mid new before between now Done res k.schedule_is s h
-    (if_ok last (λ l. l ≡ end_text r.events) (λ l. IsLast C s.past s.state k.number k.rest l) (λ l e. inl (k.is_end, is l e)) i)
-    (if_ok last (λ l. l ≡ end_text r.events) (λ l. Reports C s.past s.state k.text k.number l old new → ReplaysAll C schedule old new)
-    (λ l e x. record { past = s.past; state = s.state; text = k.text; rest = k.rest; schedule_is = k.schedule_is; is_end = k.is_end; number = k.number; reports = (let P : List ℕ → Type 0 = λ y. Reports C s.past s.state k.text k.number y old new in subst P (is l e) x) }) i) f
+    ended C schedule r schedule [] k.number last old mid new before between now Done res (sym (append-nil schedule)) s h
+    (if_ok last (λ l. l ≡ end_text r.events) (λ l. IsLast C s.past s.state k.number [] l) (λ l e. inl (refl, is l e)) i)
+    (if_ok last (λ l. l ≡ end_text r.events) (λ l. Reports C s.past s.state schedule k.number l old new → ReplaysAll C schedule old new)
+    (λ l e x. record { past = s.past; state = s.state; number = k.number; reports = (let P : List ℕ → Type 0 = λ y. Reports C s.past s.state schedule k.number y old new in subst P (is l e) x) }) i) f
 
 pub text_replayed : (C : configured.Config) (schedule : List ℕ) (r : Replay) (line : ℕ) (kind : LineKind) (last : Result (List ℕ) want.Memory) (old mid new : Option (List ℕ)) (before between now : ℕ) (res : Result (Unit {0}) End) → StoppedText C schedule line kind r.core r.taken.items r.events old mid
     → before ≤ between → IfOk last (λ l. l ≡ text_fault line kind) → Finished r last mid new between now res → Replayed C schedule old new before now (end_unless Schedule res)

@@ -70,9 +70,9 @@ journal_is_read C steps h = steps_read (note_lines (init_notes C)) steps [] h (n
 pub journal_has_no_fault : JournalHasNoFault
 journal_has_no_fault C K steps h old new m =
     let r = journal_is_read C steps h in
-    whole_has_no_fault (journal_of C steps) (journal_of C steps) [] m.text m.rest r.0 m.number (events_of (past_after steps [])) (events_of m.past) m.kind r.1 (sym (append-nil (journal_of C steps))) (tt, tt) m.schedule_is m.reports.reads m.faulty
+    whole_has_no_fault (journal_of C steps) m.text m.rest r.0 m.number (events_of (past_after steps [])) (events_of m.past) m.kind r.1 m.schedule_is m.reports.reads m.faulty
 
 pub journal_replays : JournalReplays
 journal_replays C K steps h old new m =
     let r = journal_is_read C steps h in
-    read_once (journal_of C steps) m.text m.rest r.0 m.number (events_of (past_after steps [])) (events_of m.past) r.1 m.schedule_is m.is_end.0 m.reports.reads
+    read_once (journal_of C steps) r.0 m.number (events_of (past_after steps [])) (events_of m.past) r.1 m.reports.reads

@@ -1,5 +1,5 @@
 -- When a command comes to its whole text.
-use Rattle.std.specs.Prelude.{◌≡◌, ◌⊎◌, ℕ, List, ◌++◌, Option, Some, None, IsSome}
+use Rattle.std.specs.Prelude.{◌≡◌, ◌⊎◌, ℕ, List, Option, Some, None, IsSome}
 use Rattle.config.specs.Documents.{document_fault, items_at}
 use Rattle.config.specs.Keys.{rules, rule_text}
 use Rattle.config.specs.Loading.{file_name}
@@ -18,7 +18,7 @@ use Rattle.proxy.specs.declared.end.End.TheVariants.{Done, Schedule, Memory}
 use Rattle.journal_value.specs.Journal.{AllFit, IsJournal}
 use Rattle.journal_value.specs.declared.journal.JournalLine.{JournalLine}
 use Rattle.proxy.specs.Command.{Command, Checks, Explains, Migrates, Mirrors, MirrorNames, Replays, Reports, Named, command_of}
-use Rattle.proxy.specs.Lines.{IsEnd, Reads}
+use Rattle.proxy.specs.Lines.{Reads}
 use Rattle.proxy.specs.Mirroring.{outcome_end, outcome_text}
 use Rattle.proxy.specs.Offline.{Runs}
 use Rattle.proxy.specs.Replayed.{MeetsRefusal}
@@ -106,13 +106,9 @@ pub record MayReplay (words : List (List ℕ)) (told : List ℕ → Option (List
   pub built : IsBuilt C
   pub schedule : List ℕ
   pub schedule_is : told named.schedule ≡ Some schedule
-  pub text : List ℕ
-  pub rest : List ℕ
-  pub lines_are : schedule ≡ text ++ rest
-  pub is_end : IsEnd rest
   pub number : ℕ
   pub events : List Event
-  pub reads : Reads text number events
+  pub reads : Reads schedule number events
   pub no_read_fault : Rose reads_before reads_now → ⊥
   pub no_write_fault : Rose before now → ⊥
 

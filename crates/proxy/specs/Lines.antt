@@ -65,15 +65,17 @@ pub record GivesNone (line : List ℕ) (kind : LineKind) : Type 0 where
 abbrev pub unended_kind : List ℕ → LineKind
 unended_kind line = if nat_lt longest_line (length line) then LongLine else NoNewline
 
--- what may stand behind the last LF: nothing, or a line that is skipped
-abbrev pub IsEnd : List ℕ → Type 0
-IsEnd rest = IsLine rest × IsSkipped rest
+-- What is wrong with a last line that has no LF. One that is skipped is never too long.
+pub record Unends (rest : List ℕ) (kind : LineKind) : Type 0 where
+  pub skipped : IsSkipped rest → kind ≡ NoNewline
+  pub not_skipped : (IsSkipped rest → ⊥) → kind ≡ unended_kind rest
 
--- The text begins with a faulty line: the last one, which has no LF and isn't skipped, or one that
--- gives no event. Of several faults the one with the least number is told.
+-- The text begins with a faulty line: the last one, which has no LF, skipped or not, or one that
+-- gives no event. Of several faults the one with the least number is told. Behind the last LF there
+-- is no line.
 pub data Faulty : List ℕ → LineKind → Type 0 where
-  Unended : (rest : List ℕ) (kind : LineKind) → IsLine rest → (IsSkipped rest → ⊥)
-      → kind ≡ unended_kind rest → Faulty rest kind
+  Unended : (rest : List ℕ) (kind : LineKind) → IsLine rest → (rest ≡ [] → ⊥)
+      → Unends rest kind → Faulty rest kind
   NoEvent : (line rest : List ℕ) (kind : LineKind) → IsLine line → GivesNone line kind
       → Faulty (line ++ 10 ∷ rest) kind
 

@@ -14,7 +14,7 @@ use Rattle.proxy.specs.declared.end.End.{End}
 use Rattle.proxy.specs.declared.end.End.TheVariants.{Done, Usage, Config, Schedule, ReadFault}
 use Rattle.proxy.specs.declared.end.End.TheVariants.{WriteFault, Memory, Differs, SecondText}
 use Rattle.proxy.specs.declared.replay.Replay.{Replay}
-use Rattle.proxy.specs.Lines.{Reads, Faulty, IsEnd, Refuses, events_of}
+use Rattle.proxy.specs.Lines.{Reads, Faulty, Refuses, events_of}
 use Rattle.proxy.specs.Report.{end_text, text_fault, event_fault}
 use Rattle.proxy.specs.Replay.{conns_text, report_text}
 use Rattle.proxy.specs.Written.{WritesFront, WritesFrontOf}
@@ -34,12 +34,8 @@ pub record ReplaysAll (C : configured.Config) (schedule : List ℕ)
     (old new : Option (List ℕ)) : Type 0 where
   pub past : Past
   pub state : State
-  pub text : List ℕ
-  pub rest : List ℕ
-  pub schedule_is : schedule ≡ text ++ rest
-  pub is_end : IsEnd rest
   pub number : ℕ
-  pub reports : Reports C past state text number (end_text (length past)) old new
+  pub reports : Reports C past state schedule number (end_text (length past)) old new
 
 -- the first faulty line of the schedule gives no event
 pub record MeetsFault (C : configured.Config) (schedule : List ℕ)

@@ -1,5 +1,5 @@
 -- What a replay has read and written so far.
-use Rattle.std.specs.Prelude.{◌≡◌, ◌⊎◌, ℕ, ◌+◌, List, ◌++◌, length, take, Option}
+use Rattle.std.specs.Prelude.{◌≡◌, ◌⊎◌, ℕ, ◌+◌, List, [], ◌++◌, length, take, Option}
 use Rattle.px_outside.specs.Outside.{told_more}
 use Rattle.proxy_core.specs.Moves.{Leads}
 use Rattle.record_model.specs.Past.{Past}
@@ -10,7 +10,7 @@ use Rattle.proxy_core.specs.declared.core_state.Core.{Core}
 use Rattle.core_events.specs.declared.bad_event.BadEvent.{BadEvent}
 use Rattle.proxy.specs.declared.taken.Taken.{Taken}
 use Rattle.journal_text.specs.declared.line_kind.LineKind.{LineKind}
-use Rattle.proxy.specs.Lines.{Reads, Faulty, IsEnd, Refuses, events_of}
+use Rattle.proxy.specs.Lines.{Reads, Faulty, Refuses, events_of}
 use Rattle.proxy.specs.Replay.{notes_text, accepted, taken_of, report_text}
 use Rattle.proxy.specs.Report.{end_text, text_fault, event_fault}
 
@@ -27,21 +27,17 @@ pub record Stands (C : Config) (text : List ℕ) (number : ℕ) (core : Core) (t
   pub taken_is : taken ≡ taken_of past state (accepted past)
   pub written : new ≡ told_more old (notes_text C past)
 
--- the whole schedule was read: lines, and what may stand behind them
+-- the whole schedule was read
 pub record StandsAtEnd (C : Config) (schedule : List ℕ) (core : Core) (taken : List Taken)
     (events : ℕ) (old new : Option (List ℕ)) : Type 0 where
-  pub text : List ℕ
-  pub rest : List ℕ
-  pub schedule_is : schedule ≡ text ++ rest
-  pub is_end : IsEnd rest
   pub number : ℕ
-  pub stands : Stands C text number core taken events old new
+  pub stands : Stands C schedule number core taken events old new
 
 -- the last line of a report of this past, behind whose lines stands this rest of the schedule: how
 -- many events there were, or the first faulty line, with its number
 abbrev pub IsLast : Config → Past → State → (number : ℕ) → (rest : List ℕ) → List ℕ → Type 0
 IsLast C past s number rest last =
-    (IsEnd rest × (last ≡ end_text (length past)))
+    ((rest ≡ []) × (last ≡ end_text (length past)))
     ⊎ ((kind : LineKind) × Faulty rest kind × (last ≡ text_fault (number + 1) kind))
     ⊎ ((why : BadEvent) × Refuses C past s why rest × (last ≡ event_fault (number + 1) why))
 

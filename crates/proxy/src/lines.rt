@@ -6,6 +6,7 @@ ghost use Rattle.std.specs.List.{position_from};
 ghost use Rattle.px_outside.specs.Outside.{Rose};
 ghost use Rattle.run_config.specs.declared.config.Config.{Config};
 ghost use Rattle.journal_text.specs.Line.{IsSkipped};
+ghost use Rattle.journal_text.specs.declared.line_kind.LineKind.TheVariants.{NoNewline};
 ghost use Rattle.proxy.specs.Lines.{IsLine, unended_kind};
 ghost use Rattle.proxy.specs.Stops.{GoesOnBehind, StopsBehind, Stopped};
 ghost use Rattle.proxy.specs.Written.{Stands, StandsAtEnd};
@@ -46,7 +47,8 @@ impl Replay {
         while at < schedule.len() {
             line += 1;
             let Some(len) = line_len(&schedule[at..]) else {
-                return last_line(alloc, line, &schedule[at..]);
+                let kind = last_kind(alloc, &schedule[at..]);
+                return Err(Stop::Text { line, kind });
             };
             if let Err(why) = self.line(alloc, line, &schedule[at..at + len], steps, out) {
                 return Err(why);
@@ -87,20 +89,18 @@ impl Replay {
     }
 }
 
-// A last line without its newline is a fault, unless it is skipped.
-fn last_line(alloc: Global, line: u64, text: &[u8]) -> Result<(), Stop>
-    ensures skipped { OnOk result (IsSkipped text.now) }
-    ensures unended { IfErr result (λ why.
-        (why ≡ Stop.Text line (unended_kind text.now)) × (IsSkipped text.now → ⊥)) }
+// What is wrong with a last line without its newline, skipped or not.
+fn last_kind(alloc: Global, text: &[u8]) -> LineKind
+    ensures skipped { IsSkipped text.now → result ≡ NoNewline }
+    ensures not_skipped { (IsSkipped text.now → ⊥) → result ≡ unended_kind text.now }
 {
-    if let Ok(None) = line_event(alloc, text) {
-        return Ok(());
+    match line_event(alloc, text) {
+        Ok(None) => LineKind::NoNewline,
+        _ => unended_kind(text),
     }
-    let kind = unended_kind(text);
-    Err(Stop::Text { line, kind })
 }
 
-// What is wrong with a last line without its newline.
+// The same of one that isn't skipped.
 fn unended_kind(text: &[u8]) -> LineKind
     ensures { result ≡ unended_kind text.now }
 {

@@ -113,7 +113,7 @@ pub data Goes {S : Type 0} (face : Face S) : Stand S → Stand S → Type 0 wher
   Then : {a c : Stand S} → (b : Stand S) (d : Due) → Goes face a b → IsDue face b d → DoesDue face d b c → Goes face a c
 
 -- how many events were due and done
-pub event_count : {S : Type 0} {face : Face S} {a b : Stand S} → Goes face a b → ℕ
+abbrev pub event_count : {S : Type 0} {face : Face S} {a b : Stand S} → Goes face a b → ℕ
 event_count Stays = 0
 event_count (Then b d before is does) = event_count before + 1
 
@@ -122,7 +122,6 @@ event_count (Then b d before is does) = event_count before + 1
 abbrev pub made_if : (taken : Bool) → MoveEnd
 made_if true = Made
 made_if false = Refused
-
 
 -- the most events of one rest
 abbrev pub most_events : ℕ

@@ -1,5 +1,5 @@
 -- The core stands for the past of the events that a run gave.
-use Rattle.std.proofs.Common.{◌≡◌, ◌⊎◌, ℕ, ◌+◌, ◌^◌, ◌≤◌, List, [], ◌∷◌, ◌++◌, true, false, Option, Some, None, refl, ap, sym, ◌∙◌, subst, append_assoc, inl, inr, tt}
+use Rattle.std.proofs.Common.{◌≡◌, ◌⊎◌, ℕ, ◌+◌, ◌^◌, ◌≤◌, List, [], ◌∷◌, ◌++◌, true, false, Option, Some, None, refl, ap, sym, ◌∙◌, subst, append_assoc, inl, inr}
 use Rattle.std.proofs.lemmas.List.{append-nil}
 use Rattle.std.specs.Prelude.{Bool, IfOk, IfSome, Result, Ok, Err, cond, flat_map, option_to_list}
 use Rattle.core_events.specs.Face.{end_event, from_event, reset_event}
@@ -330,7 +330,7 @@ kept_before C b p = record {
   matches = every_past_matches C p.past p.state p.represents.sound.leads;
 }
 
-pub promised : (C : Config) (steps : List PlacedStep) (moves : List TestMove) (end : RunEnd) (a b : Stand Core) → StandsFor C a
+promised : (C : Config) (steps : List PlacedStep) (moves : List TestMove) (end : RunEnd) (a b : Stand Core) → StandsFor C a
     → RunEnds core_face steps moves end a b → PromisedAt C end b
 promised C steps moves run_end.Done a b p made = kept C b (follows C steps made p)
 promised C steps moves (run_end.Refused step) a b p k = kept_before C b (refuses_move C steps k.one k.between b k.ends (follows C steps k.follows p))

@@ -71,10 +71,10 @@ schedule_is_read entries h =
 pub schedule_has_no_fault : ScheduleHasNoFault
 schedule_has_no_fault K entries h old new m =
     let r = schedule_is_read entries h in
-    whole_has_no_fault (schedule_text entries) (schedule_text entries) [] m.text m.rest r.0 m.number
-    (reverse (events_in entries)) (events_of m.past) m.kind r.1 (sym (append-nil (schedule_text entries))) (tt, tt) m.schedule_is m.reports.reads m.faulty
+    whole_has_no_fault (schedule_text entries) m.text m.rest r.0 m.number
+    (reverse (events_in entries)) (events_of m.past) m.kind r.1 m.schedule_is m.reports.reads m.faulty
 
 pub schedule_replays : ScheduleReplays
 schedule_replays K entries h old new m =
     let r = schedule_is_read entries h in
-    read_once (schedule_text entries) m.text m.rest r.0 m.number (reverse (events_in entries)) (events_of m.past) r.1 m.schedule_is m.is_end.0 m.reports.reads
+    read_once (schedule_text entries) r.0 m.number (reverse (events_in entries)) (events_of m.past) r.1 m.reports.reads

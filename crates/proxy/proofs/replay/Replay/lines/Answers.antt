@@ -1,19 +1,11 @@
-use Rattle.std.proofs.Common.{◌≡◌, ◌+◌, ◌-◌, ℕ, List, [], Option, take, drop, subst, sym, arith}
-use Rattle.std.proofs.lemmas.List.{append-nil, length-drop, take_all}
+use Rattle.std.proofs.Common.{◌≡◌, ◌+◌, ◌-◌, ℕ, List, [], Option, take, drop, subst, arith}
+use Rattle.std.proofs.lemmas.List.{length-drop, take_all}
 use Rattle.run_config.specs.declared.config.Config.{Config}
 use Rattle.proxy.specs.Stops.{StoppedAtLine}
 use Rattle.proxy.specs.Written.{Stands}
 use Rattle.proxy.proofs.LineCuts.{cut}
-use Rattle.proxy.proofs.ScheduleStops.{placed, within_rest, behind_line, stops_there, last_skipped, last_unended}
+use Rattle.proxy.proofs.ScheduleStops.{placed, within_rest, behind_line, stops_there, stops_unended}
 use Rattle.proxy.proofs.replay.Replay.lines.Goals as goal
-
-pub returns-in_default-clause-goes_on : goal.returns-in_default-clause-goes_on
-returns-in_default-clause-goes_on g c =
-    let l = c.loop-at in
-    let s = c.args.schedule.now in
-    let old = c.args.self.now in
-    let before : Config → Option (List ℕ) → Type 0 = λ C told. Stands C [] 0 old.core old.taken.items old.events told (g.K.Sink.written c.args.out.now) in
-    last_skipped s l.at l.line l.self.core l.self.taken.items l.self.events (g.K.Sink.written l.out) before (placed l.at s _ _ c.line_len.ensures.place c.in_default.is) l.invariant.stands c.last_line.result c.last_line.ensures.skipped
 
 pub returns-in_default-clause-stops : goal.returns-in_default-clause-stops
 returns-in_default-clause-stops g c =
@@ -21,7 +13,7 @@ returns-in_default-clause-stops g c =
     let s = c.args.schedule.now in
     let old = c.args.self.now in
     let before : Config → Option (List ℕ) → Type 0 = λ C told. Stands C [] 0 old.core old.taken.items old.events told (g.K.Sink.written c.args.out.now) in
-    last_unended s l.at l.line l.self.core l.self.taken.items l.self.events (g.K.Sink.written l.out) before (placed l.at s _ _ c.line_len.ensures.place c.in_default.is) l.invariant.stands c.last_line.result c.last_line.ensures.unended
+    stops_unended s l.at l.line l.self.core l.self.taken.items l.self.events (g.K.Sink.written l.out) before c.last_kind-kind.result (omega (arith, c.loop-at-test.true)) (placed l.at s _ _ c.line_len.ensures.place c.in_default.is) c.last_kind-kind.ensures.skipped c.last_kind-kind.ensures.not_skipped l.invariant.stands
 
 pub line-requires-clause-is_line : goal.line-requires-clause-is_line
 line-requires-clause-is_line g c =
@@ -45,7 +37,7 @@ returns-clause-goes_on g c C told st =
     let l = c.loop-at in
     let s = c.args.schedule.now in
     let P : List ℕ → Type 0 = λ t. Stands C t l.line l.self.core l.self.taken.items l.self.events told (g.K.Sink.written l.out) in
-    record { text = s; rest = []; schedule_is = sym (append-nil s); is_end = (tt, tt); number = l.line; stands = subst P (take_all l.at s (omega (arith, c.loop-at-test.false))) (l.invariant.stands C told st) }
+    record { number = l.line; stands = subst P (take_all l.at s (omega (arith, c.loop-at-test.false))) (l.invariant.stands C told st) }
 
 pub loop-at-preserved : goal.loop-at-preserved
 loop-at-preserved g c =
