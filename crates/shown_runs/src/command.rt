@@ -85,7 +85,7 @@ pub fn show_command<F: Files, K: Sink>(
     files: &mut F,
     out: &mut K,
 ) -> Status {
-    match words_of(alloc, words.as_slice()) {
+    match words_of(words.as_slice()) {
         Ok(Some(words)) => match show_files(alloc, &words, files) {
             Ok(shown) => tell(out, &shown),
             Err(stop) => stopped(out, stop),

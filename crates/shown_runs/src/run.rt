@@ -5,7 +5,7 @@ ghost use Rattle.proxy_core.specs.Face.{Always};
 ghost use Rattle.record_model.specs.Past.{shared};
 ghost use Rattle.shown_runs.specs.Shown.{BehindEvent, Shows, ShowsMore};
 
-use core_events::{BadEvent, Event, EventCore, Notes};
+use core_events::{BadEvent, Event, Notes};
 use frame_machine::Stepper;
 use journal_lines::{event_line, note_lines};
 use proxy_core::Core;
@@ -46,7 +46,7 @@ impl ShownRun {
             (ShowsMore only line.now self.old.notes.items self.old self.new) }
     {
         self.text.push(line.as_bytes())?;
-        let moment = EventCore::moment(&self.core);
+        let moment = self.core.moment();
         let notes = note_lines(alloc, only, moment, self.notes.as_slice())?;
         self.text.push(notes.as_bytes())
     }
@@ -61,7 +61,7 @@ impl ShownRun {
     ) -> M<Option<BadEvent>>
         ensures { IfOk result (λ why. BehindEvent only event why self.old self.new) }
     {
-        let line = event_line(alloc, only, EventCore::moment(&self.core), &event)?;
+        let line = event_line(alloc, only, self.core.moment(), &event)?;
         self.notes.clear();
         self.notes.reserve(68)?;
         if let Err(why) = self.core.step::<Stepper, L>(event, steps, &mut self.notes) {

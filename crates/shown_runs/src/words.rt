@@ -1,10 +1,10 @@
 // The words of `show`.
 
-ghost use Rattle.std.specs.Prelude.{◌≡◌, IfOk, IfSome};
-ghost use Rattle.shown_runs.specs.Words.{Says, begins_show};
+ghost use Rattle.std.specs.Prelude.{◌≡◌, ◌∷◌, [], IfOk, IfSome};
+ghost use Rattle.std.specs.Fmt.{decimal};
+ghost use Rattle.shown_runs.specs.Words.{Says, begins_show, only_words};
 
 use px_bytes::{M, Text, read_decimal};
-use std::alloc::Global;
 
 /// What is to be shown.
 #[derive(Drop)]
@@ -25,13 +25,19 @@ pub fn begins_show(words: &[Text]) -> bool
     }
 }
 
-fn conn_of(word: &[u8]) -> Option<u32> {
+// The number of a connection.
+fn conn_of(word: &[u8]) -> Option<u32>
+    ensures { IfSome result (λ conn. word.now ≡ decimal conn) }
+{
     let number = read_decimal(word, u32::MAX as u64)?;
-    u32::try_from(number).ok()
+    Some(number as u32)
 }
 
-// Without an option, or with one.
-fn said(alloc: Global, config: &Text, schedule: &Text, only: Option<u32>) -> M<ShowWords> {
+// Behind `show` stand two names, and an option or none.
+fn said(config: &Text, schedule: &Text, only: Option<u32>) -> M<ShowWords>
+    ensures { IfOk result (λ said. said
+        ≡ record { config = config.now; schedule = schedule.now; only = only }) }
+{
     let config = config.copy()?;
     let schedule = schedule.copy()?;
     Ok(ShowWords {
@@ -41,20 +47,32 @@ fn said(alloc: Global, config: &Text, schedule: &Text, only: Option<u32>) -> M<S
     })
 }
 
+// With an option, which is `--only C`.
+fn said_only(config: &Text, schedule: &Text, option: &[u8], conn: &[u8]) -> M<Option<ShowWords>>
+    ensures { IfOk result (λ found. IfSome found (λ said.
+        option.now ∷ conn.now ∷ [] ≡ only_words said.only × said.config ≡ config.now
+        × said.schedule ≡ schedule.now)) }
+{
+    if option != b"--only".as_slice() {
+        return Ok(None);
+    }
+    match conn_of(conn) {
+        Some(conn) => Ok(Some(said(config, schedule, Some(conn))?)),
+        None => Ok(None),
+    }
+}
+
 /// What the words say: `show CONFIG SCHEDULE [--only C]`.
-pub fn words_of(alloc: Global, words: &[Text]) -> M<Option<ShowWords>>
+pub fn words_of(words: &[Text]) -> M<Option<ShowWords>>
     ensures { IfOk result (λ found. IfSome found (Says words.now)) }
 {
     if !begins_show(words) {
         return Ok(None);
     }
     match words {
-        [_, config, schedule] => Ok(Some(said(alloc, config, schedule, None)?)),
-        [_, config, schedule, option, conn] if option.as_bytes() == b"--only".as_slice() => {
-            let Some(conn) = conn_of(conn.as_bytes()) else {
-                return Ok(None);
-            };
-            Ok(Some(said(alloc, config, schedule, Some(conn))?))
+        [_, config, schedule] => Ok(Some(said(config, schedule, None)?)),
+        [_, config, schedule, option, conn] => {
+            said_only(config, schedule, option.as_bytes(), conn.as_bytes())
         }
         _ => Ok(None),
     }
