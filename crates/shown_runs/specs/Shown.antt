@@ -22,6 +22,7 @@ use Rattle.run_config.specs.declared.config.Config.{Config}
 use Rattle.shown_runs.specs.declared.run.ShownRun.{ShownRun}
 use Rattle.shown_runs.specs.declared.shown.ShownText.{ShownText}
 use Rattle.shown_runs.specs.declared.words.ShowWords.{ShowWords}
+use Rattle.shown_runs.specs.Words.{Says}
 use Rattle.tested_runs.specs.Sources.{IsConfig}
 
 -- ---- the text
@@ -141,3 +142,32 @@ pub record ShowsFiles (told : List ℕ → Option (List ℕ)) (said : ShowWords)
   pub run : ShownRun
   pub shows : ShowsTo C said.only schedule fault run
   pub text_is : text ≡ run.text
+
+-- ---- what is written
+
+abbrev pub fault_text : Option (List ℕ) → List ℕ
+fault_text None = []
+fault_text (Some line) = line
+
+-- the status behind it
+abbrev pub status_of : (fault : Option (List ℕ)) → ℕ
+status_of None = 0
+status_of (Some line) = 4
+
+-- the words ask for files that are shown so, up to this fault, and that was written and nothing else
+pub record Showed (told : List ℕ → Option (List ℕ)) (words : List (List ℕ)) (fault : Option (List ℕ)) (old new : Option (List ℕ))
+    : Type 0 where
+  pub said : ShowWords
+  pub says : Says words said
+  pub text : List ℕ
+  pub shows : ShowsFiles told said fault text
+  pub written : new ≡ told_more old (text ++ fault_text fault)
+
+-- 0 only where the whole schedule was shown, 4 only where a faulty line was told behind what was shown
+pub record ShownAs (told : List ℕ → Option (List ℕ)) (words : List (List ℕ)) (status : ℕ) (old new : Option (List ℕ)) : Type 0 where
+  pub whole : status ≡ 0 → Showed told words None old new
+  pub faulty : status ≡ 4 → (line : List ℕ) × Showed told words (Some line) old new
+
+-- neither
+abbrev pub IsOther : ℕ → Type 0
+IsOther status = (status ≡ 0 → ⊥) × (status ≡ 4 → ⊥)

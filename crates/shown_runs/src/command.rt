@@ -1,8 +1,8 @@
 // The command that shows a schedule.
 
-ghost use Rattle.std.specs.Prelude.{◌≡◌, IfErr, IfOk, OnOk};
+ghost use Rattle.std.specs.Prelude.{◌≡◌, ◌⊎◌, ◌<◌, ◌++◌, IfOk, IsSome, None};
 ghost use Rattle.px_outside.specs.Outside.{told_more};
-ghost use Rattle.shown_runs.specs.Shown.{ShowsFiles};
+ghost use Rattle.shown_runs.specs.Shown.{IsOther, ShownAs, ShowsFiles, fault_text};
 
 use crate::shown::{ShownText, shown};
 use crate::words::{ShowWords, words_of};
@@ -40,9 +40,10 @@ fn unread(failed: Failed) -> TestStop {
 
 // The status behind a text that was said, unless that failed.
 fn said<K: Sink>(out: &mut K, text: &[u8], status: u8) -> Status
-    requires { 0 < status }
-    ensures only { 0 < result.0 }
-    ensures written { result.0 ≡ status → K.written out.new ≡ told_more (K.written out.old) text.now }
+    ensures other { IsOther status → IsOther result.0 }
+    ensures as_said { (result.0 ≡ status) ⊎ IsOther result.0 }
+    ensures written { result.0 < 6
+        → K.written out.new ≡ told_more (K.written out.old) text.now }
 {
     match write_all(out, text) {
         Ok(()) => Status(status),
@@ -51,7 +52,9 @@ fn said<K: Sink>(out: &mut K, text: &[u8], status: u8) -> Status
     }
 }
 
-fn stopped<K: Sink>(out: &mut K, stop: TestStop) -> Status {
+fn stopped<K: Sink>(out: &mut K, stop: TestStop) -> Status
+    ensures { IsOther result.0 }
+{
     match stop {
         TestStop::Read => Status(5),
         TestStop::Write => Status(6),
@@ -62,18 +65,16 @@ fn stopped<K: Sink>(out: &mut K, stop: TestStop) -> Status {
 }
 
 // Writes what is shown.
-fn tell<K: Sink>(out: &mut K, shown: &ShownText) -> Status {
-    let end = match &shown.fault {
-        None => write_all(out, shown.text.as_bytes()),
-        Some(fault) => match write_all(out, shown.text.as_bytes()) {
-            Ok(()) => write_all(out, fault.as_bytes()),
-            Err(why) => Err(why),
-        },
-    };
-    match end {
-        Ok(()) => Status(if shown.fault.is_some() { 4 } else { 0 }),
-        Err(Failed::Failed) => Status(6),
-        Err(Failed::Memory) => Status(7),
+fn tell<K: Sink>(out: &mut K, shown: ShownText) -> Status
+    ensures whole { result.0 ≡ 0 → (shown.fault ≡ None)
+        × (K.written out.new ≡ told_more (K.written out.old) (shown.text ++ fault_text shown.fault)) }
+    ensures faulty { result.0 ≡ 4 → (IsSome shown.fault)
+        × (K.written out.new ≡ told_more (K.written out.old) (shown.text ++ fault_text shown.fault)) }
+{
+    let status = shown.status();
+    match shown.whole() {
+        Ok(text) => said(out, text.as_bytes(), status),
+        Err(_) => Status(7),
     }
 }
 
@@ -84,10 +85,13 @@ pub fn show_command<F: Files, K: Sink>(
     words: &Texts,
     files: &mut F,
     out: &mut K,
-) -> Status {
+) -> Status
+    ensures { ShownAs (F.told files.old) words.now result.0 (K.written out.old)
+        (K.written out.new) }
+{
     match words_of(words.as_slice()) {
         Ok(Some(words)) => match show_files(alloc, &words, files) {
-            Ok(shown) => tell(out, &shown),
+            Ok(shown) => tell(out, shown),
             Err(stop) => stopped(out, stop),
         },
         Ok(None) => said(out, b"usage fault\n", 2),

@@ -1,8 +1,8 @@
 // All that is shown of a schedule.
 
-ghost use Rattle.std.specs.Prelude.{◌≡◌, ◌<◌, IfOk, []};
+ghost use Rattle.std.specs.Prelude.{◌≡◌, ◌<◌, ◌++◌, IfOk, []};
 ghost use Rattle.run_config.specs.declared.config.Config.{Config};
-ghost use Rattle.shown_runs.specs.Shown.{IsShown, Shows};
+ghost use Rattle.shown_runs.specs.Shown.{IsShown, Shows, fault_text, status_of};
 
 use crate::run::ShownRun;
 use px_bytes::{M, Steps, Text};
@@ -16,6 +16,31 @@ use std::sync::ledger::{Blank, Ledger};
 pub struct ShownText {
     pub text: Text,
     pub fault: Option<Text>,
+}
+
+impl ShownText {
+    /// The status where it is written.
+    pub(crate) fn status(&self) -> u8
+        ensures { result ≡ status_of self.now.fault }
+    {
+        match &self.fault {
+            None => 0,
+            Some(_) => 4,
+        }
+    }
+
+    /// What is written.
+    pub(crate) fn whole(self) -> M<Text>
+        ensures { IfOk result (λ text. text ≡ self.text ++ fault_text self.fault) }
+    {
+        let ShownText { text, fault } = self;
+        let Some(line) = fault else {
+            return Ok(text);
+        };
+        let mut text = text;
+        text.push(line.as_bytes())?;
+        Ok(text)
+    }
 }
 
 /// Shows a schedule, by a core of this configuration.
