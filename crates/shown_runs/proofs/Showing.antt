@@ -1,20 +1,27 @@
 -- One more line of a schedule.
-use Rattle.std.proofs.Common.{◌≡◌, ℕ, ◌+◌, List, [], ◌∷◌, ◌++◌, length, Option, None, refl, ap, sym, ◌∙◌, append_assoc, arith, inl, inr}
-use Rattle.std.proofs.lemmas.List.{append-nil}
+use Rattle.std.proofs.Common.{◌≡◌, ◌⊎◌, ℕ, ◌+◌, ◌<◌, ◌≤◌, List, [], ◌∷◌, ◌++◌, length, take, drop, Option, Some, None, refl, ap, sym, ◌∙◌, subst, append_assoc, arith, inl, inr}
+use Rattle.std.proofs.lemmas.List.{append-nil, take-append-drop, take_all}
+use Rattle.std.specs.List.{position_from}
+use Rattle.core_events.specs.Kinds.{kind_of}
+use Rattle.core_events.specs.declared.bad_event.BadEvent.{BadEvent}
 use Rattle.core_events.specs.declared.event.Event.{Event}
 use Rattle.core_events.specs.declared.note.Note.{Note}
+use Rattle.journal_lines.specs.Faults.{fault_line, kind_words, refusal_words}
 use Rattle.journal_lines.specs.Lines.{event_line, note_lines}
 use Rattle.journal_text.specs.Line.{IsSkipped}
-use Rattle.proxy.specs.Lines.{Gives, IsLine, Reads, events_of}
+use Rattle.journal_text.specs.declared.line_kind.LineKind.{LineKind}
+use Rattle.proxy.proofs.LineCuts.{cut, is_lf, next_line, no_lf}
+use Rattle.proxy.specs.Lines.{Gives, GivesNone, IsLine, Reads, events_of}
 use Rattle.proxy.specs.Stops.{with_line}
 use Rattle.proxy_core.specs.Face.{Always}
+use Rattle.proxy_core.specs.Refusal.{refused}
 use Rattle.proxy_core.specs.Represents.{Represents}
-use Rattle.proxy_core.specs.Scheduler.{no_connections}
+use Rattle.proxy_core.specs.Scheduler.{State, no_connections}
 use Rattle.proxy_core.specs.Steps.{KeepsStanding}
 use Rattle.record_model.specs.Past.{Happened, Past, shared}
 use Rattle.record_model.specs.Setup.{init_notes}
 use Rattle.run_config.specs.declared.config.Config.{Config}
-use Rattle.shown_runs.specs.Shown.{Shows, past_lines, shown_text}
+use Rattle.shown_runs.specs.Shown.{Faulty, LastTold, LineTold, NoEvent, Refused, Shows, ShowsTo, StopsAt, StopsAtLine, Unended, past_lines}
 use Rattle.shown_runs.specs.declared.run.ShownRun.{ShownRun}
 
 -- ---- what was read
@@ -88,3 +95,67 @@ shows_event C only text line number a b event group before behind keeps was is t
           ∙ append_assoc (note_lines only (shared []).moment (init_notes C)) (past_lines only s.past)
           (event_line only (shared s.past).moment event ++ note_lines only (shared (x ∷ s.past)).moment group);
     }
+
+-- ---- a schedule
+
+-- behind one more line
+pub shows_next : (C : Config) (only : Option ℕ) (s : List ℕ) (at len number : ℕ) (run : ShownRun)
+    → position_from is_lf 0 (drop at s) ≡ Some len → len < length (drop at s)
+    → Shows C only (with_line (take at s) (take len (drop at s))) (number + 1) run → Shows C only (take (at + (len + 1)) s) (number + 1) run
+shows_next C only s at len number run e h shows = subst (λ t. Shows C only t (number + 1) run) (next_line at len s e h) shows
+
+split : (at : ℕ) (s : List ℕ) → s ≡ take at s ++ drop at s
+split at s = sym (take-append-drop at s)
+
+faulty_line : (C : Config) (past : Past) (state : State) (number : ℕ) (line rest told : List ℕ) → IsLine line
+    → LineTold C past state number line told → Faulty C past state number (line ++ 10 ∷ rest) told
+faulty_line C past state number line rest told is k = by_why k.why
+  where
+    by_why : ((kind : LineKind) × GivesNone line kind × (told ≡ fault_line number line (kind_words kind)))
+        ⊎ ((event : Event) × (reason : BadEvent) × Gives line event × (refused C past state (kind_of event) ≡ Some reason)
+        × (told ≡ fault_line number line (refusal_words reason))) → Faulty C past state number (line ++ 10 ∷ rest) told
+    by_why (inl w) = NoEvent line rest told w.0 is w.1 w.2
+    by_why (inr w) = Refused line rest told w.0 w.1 is w.2 w.3 w.4
+
+-- it stops at a line
+pub stops_there : (C : Config) (only : Option ℕ) (s : List ℕ) (at len number : ℕ) (told : List ℕ) (run : ShownRun)
+    → position_from is_lf 0 (drop at s) ≡ Some len
+    → StopsAtLine C only (take at s) (take len (drop at s)) number told run → StopsAt C only s told run
+stops_there C only s at len number told run e k =
+    let c = cut len (drop at s) e in
+    record {
+      text = take at s;
+      rest = drop at s;
+      schedule_is = split at s;
+      number = number;
+      shows = k.shows;
+      faulty = subst (λ t. Faulty C k.shows.past k.shows.state (number + 1) t told) (sym c.whole)
+          (faulty_line C k.shows.past k.shows.state (number + 1) (take len (drop at s)) (drop (len + 1) (drop at s)) told c.is_line k.is_told);
+    }
+
+-- it ends with a line that has no line feed
+pub shows_last : (C : Config) (only : Option ℕ) (s : List ℕ) (at number : ℕ) (run : ShownRun) (told : Option (List ℕ))
+    → position_from is_lf 0 (drop at s) ≡ None → LastTold (number + 1) (drop at s) told → Shows C only (take at s) number run
+    → ShowsTo C only s told run
+shows_last C only s at number run None e skipped shows =
+    record { text = take at s; rest = drop at s; schedule_is = split at s; is_end = (no_lf (drop at s) e, skipped); number = number; shows = shows }
+shows_last C only s at number run (Some told) e k shows = record {
+  text = take at s;
+  rest = drop at s;
+  schedule_is = split at s;
+  number = number;
+  shows = shows;
+  faulty = Unended (drop at s) told (no_lf (drop at s) e) k.0 k.1;
+}
+
+-- all lines were read
+pub shows_all : (C : Config) (only : Option ℕ) (s : List ℕ) (at number : ℕ) (run : ShownRun) → length s ≤ at
+    → Shows C only (take at s) number run → ShowsTo C only s None run
+shows_all C only s at number run past shows = record {
+  text = s;
+  rest = [];
+  schedule_is = sym (append-nil s);
+  is_end = (tt, tt);
+  number = number;
+  shows = subst (λ t. Shows C only t number run) (take_all at s past) shows;
+}
