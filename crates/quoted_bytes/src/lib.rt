@@ -1,6 +1,6 @@
 //! Bytes as people read them: a word of Tcl in quotes.
 #![tactic(auto)]
 
-mod quoted;
+mod word;
 
-pub use quoted::quoted;
+pub use word::quoted;
